@@ -1,0 +1,10 @@
+pub mod Divisors
+pub mod Pigeons
+pub mod Powers
+pub mod Prime
+pub mod FieldLaws
+pub mod Turns
+pub mod Texts
+pub mod Order
+pub mod Polynomials
+pub mod Worked
