@@ -1,0 +1,4 @@
+pub mod Files
+pub mod Counts
+pub mod Ports
+pub mod Kept

@@ -1,0 +1,19 @@
+//! A store to read named files from and a sink to write lines to, with their faults counted.
+//!
+//! Programs are written over the traits [`Store`] and [`Sink`]. [`SureStore`] and [`SureSink`] hold all in
+//! memory and have no faults, [`MemoryStore`] and [`MemorySink`] fail at the calls that a test lists, and
+//! [`DiskStore`] and [`OutSink`] are the real files and the standard output.
+#![tactic(auto)]
+
+mod disk;
+mod memory;
+mod ports;
+mod sure;
+
+pub use disk::{DiskStore, OutSink};
+pub use memory::{MemorySink, MemoryStore};
+pub use ports::{PortError, Sink, Store};
+pub use sure::{SureSink, SureStore};
+
+#[cfg(test)]
+mod tests;
