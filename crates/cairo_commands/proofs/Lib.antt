@@ -1,0 +1,10 @@
+pub mod Items
+pub mod Numbers
+pub mod TraceReading
+pub mod MemoryReading
+pub mod Lookup
+pub mod WalkSteps
+pub mod Legal
+pub mod WalkLaws
+pub mod PerformLaws
+pub mod WorkedFiles

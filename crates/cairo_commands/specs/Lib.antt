@@ -1,0 +1,12 @@
+pub mod Status
+pub mod TraceFile
+pub mod MemoryFile
+pub mod Walk
+pub mod Reply
+pub mod Ending
+pub mod Perform
+pub use Rattle.casm_word.specs.Transition
+pub use Rattle.casm_word.specs.Run
+pub use Rattle.file_port.specs.Files
+pub use Rattle.file_port.specs.Counts
+pub use Rattle.file_port.specs.Ports
