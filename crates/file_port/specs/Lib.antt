@@ -2,3 +2,4 @@ pub mod Files
 pub mod Counts
 pub mod Ports
 pub mod Kept
+pub mod Disk
