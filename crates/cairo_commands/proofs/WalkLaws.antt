@@ -6,8 +6,8 @@ use Rattle.casm_word.specs.Transition.{Memory, Registers, Outcome, outcome, next
 use Rattle.casm_word.specs.Run.{steps, LegalRun}
 use Rattle.casm_word.proofs.Outcomes.{outcome-next}
 use Rattle.casm_word.proofs.Runs.{length-steps, get_or-steps}
-use Rattle.cairo_commands.specs.Walk.{is_next, refused_from, first_refused}
-use Rattle.cairo_commands.proofs.Legal.{is_next-true, is_next-same, AreNext-from_none, none-from_AreNext}
+use Rattle.cairo_commands.specs.Commands.Walk.{is_next, refused_from, first_refused}
+use Rattle.cairo_commands.proofs.WalkTheorem.{is_next-true, is_next-same, AreNext-from_none, none-from_AreNext}
 
 pub first_refused-none : (m : Memory) (states : List Registers) → 2 ≤ length states → (first_refused m states ≡ None) ↔ LegalRun m states
 unfolding first_refused

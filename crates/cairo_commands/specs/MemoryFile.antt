@@ -1,16 +1,20 @@
 -- Memory files: the cells of a memory, in the order of their addresses. Own.
-use Rattle.std.specs.Prelude.{◌≡◌, ℕ, ◌+◌, ◌*◌, ◌/◌, ◌<◌, ◌≤◌, ◌^◌, ◌==◌, Bool, ◌&&◌, true, nat_lt, nat_le, List, [], ◌∷◌, ◌++◌, length, map, slice_index, Option, Some, None, option_map, if◌then◌else◌}
+use Rattle.std.specs.Prelude.{◌≡◌, ℕ, ◌+◌, ◌*◌, ◌/◌, ◌<◌, ◌≤◌, ◌^◌, ◌==◌, Bool, ◌&&◌, true, nat_lt, nat_le, List, [], ◌∷◌, ◌++◌, length, map, Option, Some, None, option_map, if◌then◌else◌}
 use Rattle.std.specs.List.{flat_map, range_with_len, list_all, AllByRecursion, find}
 use Rattle.std.specs.List.Sorted.{IsStrictlyIncreasing}
 use Rattle.std.specs.Str.{bytes_eq}
 use Rattle.goldilocks.specs.Field.{prime}
 use Rattle.goldilocks.specs.declared.Pair.{Pair}
 use Rattle.casm_word.specs.Transition.{Memory}
-use Rattle.cairo_commands.specs.TraceFile.{number_bytes, number_at}
+use Rattle.cairo_commands.specs.FileNumbers.{number_bytes, number_at}
 
--- The most bytes that a memory file may have: those of 2^21 cells. Own.
+-- The most cells that a memory file may have. Own.
+abbrev pub most_cells : ℕ
+most_cells = 2 ^ 21
+
+-- The most bytes that a memory file may have. Own.
 abbrev pub memory_limit : ℕ
-memory_limit = 16 * 2 ^ 21
+memory_limit = 16 * most_cells
 
 -- One cell of a memory. The whitepaper's parts on memory.
 pub record Cell : Type 0 where
@@ -38,11 +42,11 @@ pub record IsCell (c : Cell) : Type 0 where
 abbrev pub addresses : List Cell → List ℕ
 addresses cells = map (λ c. c.addr) cells
 
--- The bytes of a memory file spell these cells: one after another and nothing else, each address above the one
--- before, at most 2^21 of them. Own.
+-- The bytes of a memory file spell these cells, one after another and nothing else. Each address is above the one
+-- before, and there are no more cells than a memory file may have. Own.
 pub record SpellsMemory (bytes : List ℕ) (cells : List Cell) : Type 0 where
   pub parts : bytes ≡ flat_map cell_bytes cells
-  pub most : length cells ≤ 2 ^ 21
+  pub most : length cells ≤ most_cells
   pub numbers : AllByRecursion IsCell cells
   pub ascending : IsStrictlyIncreasing (addresses cells)
 
@@ -54,13 +58,9 @@ cell_at bytes i = record { addr = number_at bytes (16 * i); value = number_at by
 unfoldable pub cells_in : List ℕ → List Cell
 cells_in bytes = map (cell_at bytes) (range_with_len 0 (length bytes / 16))
 
--- The same as a test. Own.
+-- Whether address and value are numbers of the field, as a test. Own.
 abbrev pub is_cell : Cell → Bool
 is_cell c = nat_lt c.addr prime && nat_lt c.value prime
-
--- The last of the numbers, if there is one, is below x. Own.
-abbrev pub LastBelow : List ℕ → ℕ → Type 0
-LastBelow xs x = (k : ℕ) → k + 1 ≡ length xs → slice_index xs k < x
 
 -- Whether each number is above the one before, as a test. Own.
 abbrev pub ascends : List ℕ → Bool
@@ -70,7 +70,7 @@ ascends (x ∷ y ∷ rest) = nat_lt x y && ascends (y ∷ rest)
 
 -- Whether the bytes spell the cells, as a test. Own.
 unfoldable pub spells_memory : List ℕ → List Cell → Bool
-spells_memory bytes cells = bytes_eq bytes (flat_map cell_bytes cells) && nat_le (length cells) (2 ^ 21) && list_all is_cell cells && ascends (addresses cells)
+spells_memory bytes cells = bytes_eq bytes (flat_map cell_bytes cells) && nat_le (length cells) most_cells && list_all is_cell cells && ascends (addresses cells)
 
 -- The cells that the bytes of a memory file spell, if there are any. Own.
 unfoldable pub cells_of : List ℕ → Option (List Cell)

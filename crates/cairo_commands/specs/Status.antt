@@ -4,16 +4,16 @@ use Rattle.cairo_commands.specs.declared.status.Status.{Status}
 use Rattle.cairo_commands.specs.declared.status.Status.TheVariants.{Done, Refused, Words, Input, Store, Sink, Memory, Limit, Missing}
 
 -- The number of each status, which is the program's exit status. Own.
-abbrev pub number_of : Status → ℕ
-number_of Done = 0
-number_of Refused = 1
-number_of Words = 2
-number_of Input = 3
-number_of Store = 5
-number_of Sink = 6
-number_of Memory = 7
-number_of Limit = 8
-number_of Missing = 9
+abbrev pub status_number : Status → ℕ
+status_number Done = 0
+status_number Refused = 1
+status_number Words = 2
+status_number Input = 3
+status_number Store = 5
+status_number Sink = 6
+status_number Memory = 7
+status_number Limit = 8
+status_number Missing = 9
 
 -- The status is no fault of the store or the sink and no want of memory. Own.
 abbrev pub IsDecided : Status → Type 0

@@ -1,35 +1,35 @@
-//! The commands of the tool, over a store that files are read from and a sink that a line is written to.
+//! The commands of the tool, over a store of files and a sink for one line.
 #![tactic(auto)]
 
-ghost use Rattle.std.specs.Prelude.{◌≡◌, ◌+◌, ◌*◌, ◌≤◌, ◌↔◌, ◌⊎◌, Some, None, Err, IfSome, Contains};
-ghost use Rattle.std.specs.Io.KnownBytes.{Appends, Keeps};
-ghost use Rattle.file_port.specs.Files.{Name};
-ghost use Rattle.file_port.specs.Counts.{Counts, Rose};
-ghost use Rattle.file_port.specs.Ports.{AppendsPrefix};
+ghost use Rattle.std.specs.Prelude.{◌≡◌, ◌↔◌, None, IfSome};
+ghost use Rattle.std.specs.Io.KnownBytes.{Appends};
 ghost use Rattle.cairo_commands.specs.Status.{IsDecided};
-ghost use Rattle.cairo_commands.specs.TraceFile.{trace_limit};
-ghost use Rattle.cairo_commands.specs.MemoryFile.{memory_limit};
-ghost use Rattle.cairo_commands.specs.Reply.{Walk, reply, request_of, inputs_of, usage, written};
-ghost use Rattle.cairo_commands.specs.Perform.{GaveMore, Partly, TellsFault, BeginsFault, WalksLegally};
-ghost use Rattle.cairo_commands.specs.Ending.{Ends, IsStoreFault, IfStoreFault, IsMissing, OnOverLimit};
+ghost use Rattle.cairo_commands.specs.Answer.{usage};
+ghost use Rattle.cairo_commands.specs.Reply.{reply, request_of, inputs_of, outputs_of};
+ghost use Rattle.cairo_commands.specs.Means.{Means};
+ghost use Rattle.cairo_commands.specs.Perform.{Replied, CountsNoFault, Evidence, Leaves};
+ghost use Rattle.cairo_commands.specs.Parts.{WorksOut, Plans, Carries};
 
-mod cells;
+mod commands;
 mod ending;
-mod input;
+mod file_numbers;
+mod inputs;
 mod laws;
+mod memory_file;
+mod outputs;
 mod print;
 mod status;
-mod trace;
-mod walk;
+mod trace_file;
 mod words;
 
-use ending::{Refusal, Success};
+use commands::walk::walk;
+use ending::{Refusal, Work};
 use file_port::{Sink, Store};
-pub use laws::{perform_in_memory, reading_laws, walk_laws};
+pub use laws::{number_laws, reading_laws, sure_laws, walk_laws};
+use outputs::write_outputs;
 use print::print;
 pub use status::Status;
 use std::alloc::Global;
-use walk::walk;
 use words::{Command, command_of};
 
 /// Does what the words ask for, with the files of the store, and prints one line to the sink.
@@ -37,79 +37,70 @@ use words::{Command, command_of};
 /// The words are a command and its names. `walk TRACE MEMORY` reads a trace file and a memory file, and looks
 /// whether each step of the trace is the transition of the Cairo machine in that memory.
 ///
-/// [`Status`] says when each ending comes. The answer, the files and the line are those of the reply, a function of
-/// the words and the files, unless a call of the store or the sink failed or memory ran out.
+/// [`Status`] says when each ending comes. The answer, the files and the line are those of the reply, which is a
+/// function of the words and the files. A call of the store or the sink that fails, or want of memory, ends it before.
 pub fn perform<S: Store, K: Sink>(
     alloc: Global,
     words: &[String],
     store: &mut S,
     sink: &mut K,
 ) -> Status
-    // Where the store tells its files, status, files and line are those of the reply.
-    ensures status { IfSome (S.files store.old) (λ files. IsDecided result →
-        result ≡ (reply words.now files).status) }
-    ensures files { IfSome (S.files store.old) (λ files. IsDecided result →
-        S.files store.new ≡ Some (written (reply words.now files).writes files)) }
-    ensures line { IfSome (S.files store.old) (λ files. IsDecided result →
-        Appends (K.written sink.old) (K.written sink.new) (reply words.now files).line) }
+    // Where the store tells its files, status, files and line are those of the reply. Where no fault was counted and
+    // memory was there, no other status stands in its place.
+    ensures replies { IfSome (S.seen store.old).files (λ files. IsDecided result →
+        Replied (reply words.now files) files result (S.seen store.new) (K.seen sink.old) (K.seen sink.new)) }
+    ensures complete { IfSome (S.seen store.old).files (λ files.
+        CountsNoFault (S.seen store.old) (S.seen store.new) (K.seen sink.old) (K.seen sink.new) →
+        (result ≡ Status.Memory → ⊥) →
+        Replied (reply words.now files) files result (S.seen store.new) (K.seen sink.old) (K.seen sink.new)) }
 
-    // `walk` ends with `Done` exactly where its files spell a legal run.
-    ensures legal { IfSome (S.files store.old) (λ files. (trace memory : Name) →
-        request_of words.now ≡ Some (Walk trace memory) → IsDecided result →
-        ((result ≡ Status.Done) ↔ WalksLegally trace memory files)) }
+    // What the endings of each command mean.
+    ensures means { IfSome (S.seen store.old).files (λ files. IsDecided result → IfSome (request_of words.now) (λ request.
+        Means request files result (S.seen store.new).files (K.seen sink.old).written (K.seen sink.new).written)) }
 
-    // In every store, words that are no command are told from words that are, and leave the store as it was.
-    ensures words { result ≡ Status.Words → request_of words.now ≡ None }
-    ensures usage { request_of words.now ≡ None → IsDecided result → result ≡ Status.Words }
+    // In every store, words that are an unknown command are told from a command, and leave the store as it was.
+    ensures words { IsDecided result → ((result ≡ Status.Words) ↔ (request_of words.now ≡ None)) }
     ensures usage_line { request_of words.now ≡ None → IsDecided result →
-        Appends (K.written sink.old) (K.written sink.new) usage.line }
+        Appends (K.seen sink.old).written (K.seen sink.new).written usage.line }
     ensures untouched { request_of words.now ≡ None → store.new ≡ store.old }
 
-    // In every store and sink the counts show the faults, the missing names and what was read.
-    ensures store_fault { result ≡ Status.Store → Rose (S.faults store.old) (S.faults store.new) }
-    ensures no_store_fault { IsDecided result → S.faults store.new ≡ S.faults store.old }
-    ensures sink_faults { Counts (K.faults sink.old) (K.faults sink.new) (result ≡ Status.Sink) }
-    ensures missing { result ≡ Status.Missing → Rose (S.absent store.old) (S.absent store.new) }
-    ensures none_missing { IsDecided result → (result ≡ Status.Missing → ⊥) →
-        S.absent store.new ≡ S.absent store.old }
-    // Of the two limits that of a trace is the smaller one.
-    ensures limit { (trace memory : Name) → request_of words.now ≡ Some (Walk trace memory) →
-        result ≡ Status.Limit → GaveMore trace_limit (S.given store.old) (S.given store.new) }
-    ensures bounded { (trace memory : Name) → request_of words.now ≡ Some (Walk trace memory) →
-        S.given store.new ≤ S.given store.old + (trace_limit + memory_limit + 2 * 65536) }
+    // In every store and sink the counts and the line are evidence of the status.
+    ensures evidence { Evidence (inputs_of (request_of words.now)) (outputs_of (request_of words.now))
+        (S.seen store.old) (S.seen store.new) (K.seen sink.old) (K.seen sink.new) result }
 
     // What a call leaves that met a fault or found no memory.
-    ensures partly { IfSome (S.files store.old) (λ files.
-        Partly (reply words.now files).writes files (S.files store.new)) }
-    ensures store_line { result ≡ Status.Store →
-        TellsFault (inputs_of (request_of words.now)) (K.written sink.old) (K.written sink.new) }
-    ensures sink_files { IfSome (S.files store.old) (λ files. result ≡ Status.Sink →
-        Rose (S.faults store.old) (S.faults store.new)
-        ⊎ (S.files store.new ≡ Some (written (reply words.now files).writes files))) }
-    ensures sink_line { IfSome (S.files store.old) (λ files. result ≡ Status.Sink →
-        AppendsPrefix (K.written sink.old) (K.written sink.new) (reply words.now files).line
-        ⊎ (Rose (S.faults store.old) (S.faults store.new)
-        × BeginsFault (inputs_of (request_of words.now)) (K.written sink.old) (K.written sink.new))) }
-    ensures memory_line { result ≡ Status.Memory → Keeps (K.written sink.old) (K.written sink.new) }
+    ensures leaves { IfSome (S.seen store.old).files (λ files. Leaves (reply words.now files) files
+        (inputs_of (request_of words.now)) (outputs_of (request_of words.now))
+        (S.seen store.old) (S.seen store.new) (K.seen sink.old) (K.seen sink.new) result) }
 {
-    let ending = plan(alloc, words, store);
-    print(alloc, sink, &ending)
+    let ending = carry_out(alloc, words, store);
+    print(alloc, sink, ending)
 }
 
-/// Does all but the printing.
+/// Does all but the printing: the command reads its files and works, and its outputs are written. The line is the
+/// answer.
+fn carry_out<'w, S: Store>(
+    alloc: Global,
+    words: &'w [String],
+    store: &mut S,
+) -> Result<String, Refusal<'w>>
+    ensures carries { Carries (request_of words.now) (S.seen store.old) (S.seen store.new) result }
+    ensures untouched { request_of words.now ≡ None → store.new ≡ store.old }
+{
+    let work = plan(alloc, words, store)?;
+    write_outputs(alloc, store, &work.outputs)?;
+    Ok(work.line)
+}
+
+/// Reads the files of the command and works out what it writes and prints.
+#[tactic(auto, unfolding(crate::specs::Reply::task))]
 fn plan<'w, S: Store>(
     alloc: Global,
     words: &'w [String],
     store: &mut S,
-) -> Result<Success, Refusal<'w>>
-    ensures told { IfSome (S.files store.old) (λ files. Ends result (reply words.now files)) }
-    ensures files { S.files store.new ≡ S.files store.old }
-    ensures faults { Counts (S.faults store.old) (S.faults store.new) (IsStoreFault result) }
-    ensures absent { Counts (S.absent store.old) (S.absent store.new) (IsMissing result) }
-    ensures name { IfStoreFault result (Contains (inputs_of (request_of words.now))) }
-    ensures limit { OnOverLimit result (GaveMore trace_limit (S.given store.old) (S.given store.new)) }
-    ensures bounded { S.given store.new ≤ S.given store.old + (trace_limit + memory_limit + 2 * 65536) }
-    ensures usage { (result ≡ Err Refusal.Usage) ↔ (request_of words.now ≡ None) }
+) -> Result<Work<'w>, Refusal<'w>>
+    ensures told { IfSome (S.seen store.old).files (λ files. WorksOut result (reply words.now files)) }
+    ensures uses { Plans (request_of words.now) (S.seen store.old) (S.seen store.new) result }
     ensures untouched { request_of words.now ≡ None → store.new ≡ store.old }
 {
     match command_of(words) {

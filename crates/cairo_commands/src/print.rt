@@ -1,24 +1,26 @@
-//! The line of a command is printed.
+//! The line of a call is printed.
 
-ghost use Rattle.std.specs.Prelude.{◌≡◌, IfOk, string_bytes};
+ghost use Rattle.std.specs.Prelude.{◌≡◌, IfOk, Err, string_bytes};
 ghost use Rattle.file_port.specs.Counts.{Counts};
-ghost use Rattle.cairo_commands.specs.Ending.{ending_answer, Prints};
+ghost use Rattle.cairo_commands.specs.Parts.{ending_answer, Prints};
 
-use crate::ending::{Refusal, Success};
+use crate::ending::Refusal;
 use crate::status::Status;
 use file_port::{PortError, Sink};
 use std::alloc::{AllocError, Global};
 
-/// Prints the line of the ending, and answers the status of the call.
+/// Prints the line that the ending has, and answers the status of the call. Where memory ran out nothing is put.
 pub(crate) fn print<K: Sink>(
     alloc: Global,
     sink: &mut K,
-    ending: &Result<Success, Refusal<'_>>,
+    ending: Result<String, Refusal<'_>>,
 ) -> Status
-    ensures prints { Prints result (ending_answer ending.now) (K.written sink.old) (K.written sink.new) }
-    ensures sink_faults { Counts (K.faults sink.old) (K.faults sink.new) (result ≡ Status.Sink) }
+    ensures prints { Prints result (ending_answer ending.entry) (K.seen sink.old).written (K.seen sink.new).written }
+    ensures sink_faults { Counts (K.seen sink.old).faults (K.seen sink.new).faults (result ≡ Status.Sink) }
+    ensures silent { (ending_answer ending.entry).status ≡ Status.Memory →
+        (result ≡ Status.Memory) × (sink.new ≡ sink.old) }
 {
-    let status = status_of(ending);
+    let status = status_of(&ending);
     if status == Status::Memory {
         return Status::Memory;
     }
@@ -32,7 +34,7 @@ pub(crate) fn print<K: Sink>(
     }
 }
 
-fn status_of(ending: &Result<Success, Refusal<'_>>) -> Status
+fn status_of(ending: &Result<String, Refusal<'_>>) -> Status
     ensures { result ≡ (ending_answer ending.now).status }
 {
     match ending {
@@ -41,11 +43,11 @@ fn status_of(ending: &Result<Success, Refusal<'_>>) -> Status
     }
 }
 
-fn line_of(alloc: Global, ending: &Result<Success, Refusal<'_>>) -> Result<String, AllocError>
-    ensures { IfOk result (λ text. string_bytes text ≡ (ending_answer ending.now).line) }
+fn line_of(alloc: Global, ending: Result<String, Refusal<'_>>) -> Result<String, AllocError>
+    ensures { IfOk result (λ text. string_bytes text ≡ (ending_answer ending.entry).line) }
 {
     match ending {
-        Ok(success) => success.line(alloc),
+        Ok(line) => Ok(line),
         Err(refusal) => refusal.line(alloc),
     }
 }

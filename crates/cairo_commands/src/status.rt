@@ -1,7 +1,7 @@
 //! How a call ends.
 
 ghost use Rattle.std.specs.Prelude.{◌≡◌};
-ghost use Rattle.cairo_commands.specs.Status.{number_of};
+ghost use Rattle.cairo_commands.specs.Status.{status_number};
 
 /// How a call of [`perform`](crate::perform) ended. Its number is the exit status of the program.
 #[derive(Clone, Copy, Debug, PartialEq, Eq)]
@@ -10,7 +10,7 @@ pub enum Status {
     Done,
     /// 1: the command refuses what its files spell, as the line says.
     Refused,
-    /// 2: the words keep the form of no command.
+    /// 2: the words are an unknown command.
     Words,
     /// 3: an input was read whole and spells nothing.
     Input,
@@ -29,7 +29,7 @@ pub enum Status {
 impl Status {
     /// The status's number, from 0 to 9.
     pub fn number(self) -> u8
-        ensures { result ≡ number_of self }
+        ensures { result ≡ status_number self }
     {
         match self {
             Status::Done => 0,

@@ -1,3 +1,4 @@
+pub mod Encoding
 pub mod Outcomes
 pub mod Runs
 pub mod WorkedRun

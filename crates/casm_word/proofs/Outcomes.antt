@@ -8,18 +8,18 @@ use Rattle.casm_word.specs.declared.Word.{Word}
 use Rattle.casm_word.specs.declared.Flags.{Flags}
 use Rattle.casm_word.specs.declared.WordFault.{WordFault}
 use Rattle.casm_word.specs.declared.StepResult.{StepResult}
-use Rattle.casm_word.specs.declared.StepResult.TheVariants.{Next, NoCell, BadWord, CallPc, CallFp, NotEqual}
+use Rattle.casm_word.specs.declared.StepResult.TheVariants as answer
 use Rattle.casm_word.specs.Word.{decoding}
-use Rattle.casm_word.specs.Transition.{Memory, Registers, dst_address, op0_address, op1_address, next_registers, stores_return_pc, stores_caller_fp, meets_assertion, next_by, next, Outcome, GoesOn, Lacks, Faulty, WrongReturn, WrongFrame, Unequal, with_cell, with_word, outcome_by, outcome, outcome_of, reached}
+use Rattle.casm_word.specs.Transition.{Memory, Registers, dst_address, op0_address, op1_address, next_registers, has_return_pc, has_caller_fp, meets_assertion, next_by, next, Outcome, Next, NoCell, BadWord, CallPc, CallFp, NotEqual, with_cell, with_word, outcome_by, outcome, outcome_of, reached}
 
 -- the registers that an outcome goes on to, where it does
 abbrev pub gone_on : Outcome → Option Registers
-gone_on (GoesOn t) = Some t
-gone_on (Lacks _) = None
-gone_on (Faulty _) = None
-gone_on WrongReturn = None
-gone_on WrongFrame = None
-gone_on Unequal = None
+gone_on (Next t) = Some t
+gone_on (NoCell _) = None
+gone_on (BadWord _) = None
+gone_on CallPc = None
+gone_on CallFp = None
+gone_on NotEqual = None
 
 -- both go by the same cell
 by_cell : (a : ℕ) (o : Option ℕ) (k : ℕ → Option Registers) (l : ℕ → Outcome) → ((v : ℕ) → k v ≡ gone_on (l v)) → option_and_then k o ≡ gone_on (with_cell a o l)
@@ -32,15 +32,14 @@ by_word (Err fault) k l h = refl
 by_word (Ok w) k l h = h w
 
 -- both go by the same three tests
-by_tests : (a b c : Bool) (t : Registers) → then_some (a && b && c) t ≡ gone_on (if not a then WrongReturn else (if not b then WrongFrame else (if not c then Unequal else GoesOn t)))
+by_tests : (a b c : Bool) (t : Registers) → then_some (a && b && c) t ≡ gone_on (if not a then CallPc else (if not b then CallFp else (if not c then NotEqual else Next t)))
 by_tests false b c t = refl
 by_tests true false c t = refl
 by_tests true true false t = refl
 by_tests true true true t = refl
 
 pub next_by-outcome_by : (f : Flags) (r : Registers) (dst op0 op1 : ℕ) → next_by f r dst op0 op1 ≡ gone_on (outcome_by f r dst op0 op1)
-unfolding next_by outcome_by
-next_by-outcome_by f r dst op0 op1 = by_tests (stores_return_pc f r op0) (stores_caller_fp f r dst) (meets_assertion f dst op0 op1) (next_registers f r dst op0 op1)
+next_by-outcome_by f r dst op0 op1 = by_tests (has_return_pc f r op0) (has_caller_fp f r dst) (meets_assertion f dst op0 op1) (next_registers f r dst op0 op1)
 
 pub next-outcome : (m : Memory) (r : Registers) → next m r ≡ gone_on (outcome m r)
 unfolding next outcome
@@ -53,29 +52,29 @@ next-outcome m r =
     next_by-outcome_by w.flags r dst op0 op1)))))
 
 pub reached-outcome_of : (x : StepResult) → reached x ≡ gone_on (outcome_of x)
-unfolding reached outcome_of
-reached-outcome_of (Next s) = refl
-reached-outcome_of (NoCell _) = refl
-reached-outcome_of (BadWord _) = refl
-reached-outcome_of CallPc = refl
-reached-outcome_of CallFp = refl
-reached-outcome_of NotEqual = refl
+unfolding outcome_of
+reached-outcome_of (answer.Next s) = refl
+reached-outcome_of (answer.NoCell _) = refl
+reached-outcome_of (answer.BadWord _) = refl
+reached-outcome_of answer.CallPc = refl
+reached-outcome_of answer.CallFp = refl
+reached-outcome_of answer.NotEqual = refl
 
 -- an answer that says the outcome reaches what the transition function gives
 pub reached-next : (x : StepResult) (m : Memory) (r : Registers) → outcome_of x ≡ outcome m r → reached x ≡ next m r
 reached-next x m r h = reached-outcome_of x ∙ (ap gone_on h ∙ sym (next-outcome m r))
 
 -- an outcome that goes on goes on to what is read off it
-gone_on-Some : (o : Outcome) (t : Registers) → gone_on o ≡ Some t → o ≡ GoesOn t
-gone_on-Some (GoesOn u) t h = cc
-gone_on-Some (Lacks _) t h = cc
-gone_on-Some (Faulty _) t h = cc
-gone_on-Some WrongReturn t h = cc
-gone_on-Some WrongFrame t h = cc
-gone_on-Some Unequal t h = cc
+gone_on-Some : (o : Outcome) (t : Registers) → gone_on o ≡ Some t → o ≡ Next t
+gone_on-Some (Next u) t h = cc
+gone_on-Some (NoCell _) t h = cc
+gone_on-Some (BadWord _) t h = cc
+gone_on-Some CallPc t h = cc
+gone_on-Some CallFp t h = cc
+gone_on-Some NotEqual t h = cc
 
 -- a step goes on exactly where the transition function has that value
-pub outcome-next : (m : Memory) (r t : Registers) → (outcome m r ≡ GoesOn t) ↔ (next m r ≡ Some t)
+pub outcome-next : (m : Memory) (r t : Registers) → (outcome m r ≡ Next t) ↔ (next m r ≡ Some t)
 outcome-next m r t = (
   (λ h. next-outcome m r ∙ ap gone_on h),
   (λ h. gone_on-Some (outcome m r) t (sym (next-outcome m r) ∙ h)),
@@ -103,10 +102,10 @@ after_pc m r number = with_word (decoding number) (λ w. after_word m r w)
 pub with_cell-there : (m : Memory) (k : ℕ → Outcome) (a b v : ℕ) → a ≡ b → Some v ≡ m a → with_cell b (m b) k ≡ k v
 with_cell-there m k a b v e h = let there : m b ≡ Some v = sym (ap m e) ∙ sym h in ap (λ o. with_cell b o k) there
 
--- a cell that lacks
-pub with_cell-lacks : (m : Memory) (k : ℕ → Outcome) (a b : ℕ) → a ≡ b → None ≡ m a → with_cell b (m b) k ≡ Lacks a
-with_cell-lacks m k a b e h =
-    let lacks : m b ≡ None = sym (ap m e) ∙ sym h in ap (λ o. with_cell b o k) lacks ∙ ap Lacks (sym e)
+-- a cell that is missing
+pub with_cell-missing : (m : Memory) (k : ℕ → Outcome) (a b : ℕ) → a ≡ b → None ≡ m a → with_cell b (m b) k ≡ NoCell a
+with_cell-missing m k a b e h =
+    let missing : m b ≡ None = sym (ap m e) ∙ sym h in ap (λ o. with_cell b o k) missing ∙ ap NoCell (sym e)
 
 pub outcome-first : (m : Memory) (r : Registers) → outcome m r ≡ with_cell r.pc (m r.pc) (λ number. after_pc m r number)
 unfolding outcome
@@ -118,31 +117,31 @@ outcome-word m r number w h d =
     outcome-first m r ∙ (with_cell-there m (λ v. after_pc m r v) r.pc r.pc number refl h ∙ ap (λ x. with_word x (λ v. after_word m r v)) (sym d))
 
 -- the cell at pc is no word
-pub outcome-fault : (m : Memory) (r : Registers) (number : ℕ) (fault : WordFault) → Some number ≡ m r.pc → Err fault ≡ decoding number → outcome m r ≡ Faulty fault
+pub outcome-fault : (m : Memory) (r : Registers) (number : ℕ) (fault : WordFault) → Some number ≡ m r.pc → Err fault ≡ decoding number → outcome m r ≡ BadWord fault
 outcome-fault m r number fault h d =
     outcome-first m r ∙ (with_cell-there m (λ v. after_pc m r v) r.pc r.pc number refl h ∙ ap (λ x. with_word x (λ v. after_word m r v)) (sym d))
 
--- the cell at pc lacks
-pub outcome-no_word : (m : Memory) (r : Registers) → None ≡ m r.pc → outcome m r ≡ Lacks r.pc
-outcome-no_word m r h = outcome-first m r ∙ with_cell-lacks m (λ v. after_pc m r v) r.pc r.pc refl h
+-- the cell at pc is missing
+pub outcome-no_word : (m : Memory) (r : Registers) → None ≡ m r.pc → outcome m r ≡ NoCell r.pc
+outcome-no_word m r h = outcome-first m r ∙ with_cell-missing m (λ v. after_pc m r v) r.pc r.pc refl h
 
--- dst is there, or lacks, at its address a
+-- dst is there, or missing, at its address a
 pub outcome-dst : (m : Memory) (r : Registers) (w : Word) (a dst : ℕ) → outcome m r ≡ after_word m r w → a ≡ dst_address w r → Some dst ≡ m a → outcome m r ≡ after_dst m r w dst
 outcome-dst m r w a dst o e h = o ∙ with_cell-there m (λ v. after_dst m r w v) a (dst_address w r) dst e h
 
-pub outcome-no_dst : (m : Memory) (r : Registers) (w : Word) (a : ℕ) → outcome m r ≡ after_word m r w → a ≡ dst_address w r → None ≡ m a → outcome m r ≡ Lacks a
-outcome-no_dst m r w a o e h = o ∙ with_cell-lacks m (λ v. after_dst m r w v) a (dst_address w r) e h
+pub outcome-no_dst : (m : Memory) (r : Registers) (w : Word) (a : ℕ) → outcome m r ≡ after_word m r w → a ≡ dst_address w r → None ≡ m a → outcome m r ≡ NoCell a
+outcome-no_dst m r w a o e h = o ∙ with_cell-missing m (λ v. after_dst m r w v) a (dst_address w r) e h
 
--- op0 is there, or lacks, at its address a
+-- op0 is there, or missing, at its address a
 pub outcome-op0 : (m : Memory) (r : Registers) (w : Word) (dst a op0 : ℕ) → outcome m r ≡ after_dst m r w dst → a ≡ op0_address w r → Some op0 ≡ m a → outcome m r ≡ after_op0 m r w dst op0
 outcome-op0 m r w dst a op0 o e h = o ∙ with_cell-there m (λ v. after_op0 m r w dst v) a (op0_address w r) op0 e h
 
-pub outcome-no_op0 : (m : Memory) (r : Registers) (w : Word) (dst a : ℕ) → outcome m r ≡ after_dst m r w dst → a ≡ op0_address w r → None ≡ m a → outcome m r ≡ Lacks a
-outcome-no_op0 m r w dst a o e h = o ∙ with_cell-lacks m (λ v. after_op0 m r w dst v) a (op0_address w r) e h
+pub outcome-no_op0 : (m : Memory) (r : Registers) (w : Word) (dst a : ℕ) → outcome m r ≡ after_dst m r w dst → a ≡ op0_address w r → None ≡ m a → outcome m r ≡ NoCell a
+outcome-no_op0 m r w dst a o e h = o ∙ with_cell-missing m (λ v. after_op0 m r w dst v) a (op0_address w r) e h
 
--- op1 is there, or lacks, at its address a
+-- op1 is there, or missing, at its address a
 pub outcome-op1 : (m : Memory) (r : Registers) (w : Word) (dst op0 a op1 : ℕ) → outcome m r ≡ after_op0 m r w dst op0 → a ≡ op1_address w r op0 → Some op1 ≡ m a → outcome m r ≡ outcome_by w.flags r dst op0 op1
 outcome-op1 m r w dst op0 a op1 o e h = o ∙ with_cell-there m (λ v. outcome_by w.flags r dst op0 v) a (op1_address w r op0) op1 e h
 
-pub outcome-no_op1 : (m : Memory) (r : Registers) (w : Word) (dst op0 a : ℕ) → outcome m r ≡ after_op0 m r w dst op0 → a ≡ op1_address w r op0 → None ≡ m a → outcome m r ≡ Lacks a
-outcome-no_op1 m r w dst op0 a o e h = o ∙ with_cell-lacks m (λ v. outcome_by w.flags r dst op0 v) a (op1_address w r op0) e h
+pub outcome-no_op1 : (m : Memory) (r : Registers) (w : Word) (dst op0 a : ℕ) → outcome m r ≡ after_op0 m r w dst op0 → a ≡ op1_address w r op0 → None ≡ m a → outcome m r ≡ NoCell a
+outcome-no_op1 m r w dst op0 a o e h = o ∙ with_cell-missing m (λ v. outcome_by w.flags r dst op0 v) a (op1_address w r op0) e h

@@ -5,8 +5,8 @@ use Rattle.std.specs.Bool.{if◌then◌else◌}
 use Rattle.std.specs.Prelude.{slice_get}
 use Rattle.std.proofs.lemmas.List.Elements.{All-from_recursion}
 use Rattle.goldilocks.specs.Field.{field_add, field_mul, field_of_int, field_neg}
-use Rattle.casm_word.specs.Word.{bit, offset, flags_of, word_of, two_of, breaks, shapes, first_broken, unless_broken, decoding}
-use Rattle.casm_word.specs.Transition.{Memory, Registers, size, moved, dst_address, op0_address, op1_base, op1_address, res, following_pc, next_pc, next_ap, next_fp, next_registers, stores_return_pc, stores_caller_fp, meets_assertion, next_by, next}
+use Rattle.casm_word.specs.Word.{flags_of, word_of, breaks, first_broken, decoding}
+use Rattle.casm_word.specs.Transition.{Memory, Registers, next}
 use Rattle.casm_word.specs.Run.{steps, LegalRun}
 use Rattle.casm_word.proofs.Runs.{legal_run-step}
 
@@ -27,7 +27,7 @@ abbrev states : List Registers
 states = state 1 12 12 ∷ state 3 12 12 ∷ state 7 14 14 ∷ state 9 15 14 ∷ state 5 15 12 ∷ []
 
 pub worked_run : LegalRun memory states
-unfolding field_add field_mul field_of_int field_neg bit offset flags_of word_of two_of breaks shapes first_broken unless_broken decoding size moved dst_address op0_address op1_base op1_address res following_pc next_pc next_ap next_fp next_registers stores_return_pc stores_caller_fp meets_assertion next_by next
+unfolding field_add field_mul field_of_int field_neg flags_of word_of breaks first_broken decoding next
 worked_run = record {
   has_step = lit≤ tt;
   each_next = All-from_recursion (λ step. next memory step.0 ≡ Some step.1) (steps states) (refl, (refl, (refl, (refl, tt))));
@@ -38,7 +38,7 @@ abbrev other_states : List Registers
 other_states = state 1 12 12 ∷ state 3 12 12 ∷ state 7 14 14 ∷ state 9 15 14 ∷ state 6 15 12 ∷ []
 
 last_step : next memory (state 9 15 14) ≡ Some (state 5 15 12)
-unfolding field_add field_mul field_of_int field_neg bit offset flags_of word_of two_of breaks shapes first_broken unless_broken decoding size moved dst_address op0_address op1_base op1_address res following_pc next_pc next_ap next_fp next_registers stores_return_pc stores_caller_fp meets_assertion next_by next
+unfolding field_add field_mul field_of_int field_neg flags_of word_of breaks first_broken decoding next
 last_step = refl
 
 pub no_run : LegalRun memory other_states → ⊥

@@ -1,3 +1,4 @@
 pub mod Word
 pub mod Transition
 pub mod Run
+pub mod Text

@@ -1,10 +1,10 @@
 //! The instruction that a number says.
-#![tactic(auto, using(std::proofs::lemmas::Nat::Bits::shr_and_one, std::proofs::lemmas::Nat::and_mask), unfolding(crate::specs::Word::bit, crate::specs::Word::offset, crate::specs::Word::flags_of, crate::specs::Word::word_of, crate::specs::Word::two_of, crate::specs::Word::breaks, crate::specs::Word::shapes, crate::specs::Word::first_broken, crate::specs::Word::unless_broken, crate::specs::Word::decoding))]
+#![tactic(auto)]
 
-ghost use Rattle.std.specs.Prelude.{◌≡◌, ◌<◌, ◌≤◌, ◌^◌, ◌↔◌, IsOk, IfOk};
-ghost use Rattle.casm_word.specs.Word.{bit, offset, flags_of, word_of, two_of, breaks, first_broken, decoding};
+ghost use Rattle.std.specs.Prelude.{◌≡◌, ◌<◌, ◌≤◌, ◌↔◌, IsOk, IfOk};
+ghost use Rattle.casm_word.specs.Word.{bit, offset, flags_of, word_of, two_of, breaks, first_broken, decoding, word_limit, word_number};
 
-use crate::{Flags, Shape, Word, WordFault};
+use crate::{Flags, OFFSET_BIAS, Shape, Word, WordFault};
 
 /// All shapes, in the order in which they are tested.
 const SHAPES: [Shape; 8] = [
@@ -22,13 +22,15 @@ const SHAPES: [Shape; 8] = [
 ///
 /// [`WordFault::HighBit`] exactly where `v` is 2^63 or more, and else [`WordFault::Undefined`] exactly where its flags
 /// break a shape: the first one.
+#[tactic(auto, unfolding(crate::specs::Word::decoding, crate::specs::Word::word_of))]
 pub fn decode(v: u64) -> Result<Word, WordFault>
     ensures value { result ≡ decoding v }
-    ensures high_bit { (result ≡ Err WordFault.HighBit) ↔ (2 ^ 63 ≤ v) }
+    ensures high_bit { (result ≡ Err WordFault.HighBit) ↔ (word_limit ≤ v) }
     ensures undefined { (s : Shape) → (result ≡ Err (WordFault.Undefined s))
-        ↔ ((v < 2 ^ 63) × (first_broken (flags_of v) ≡ Some s)) }
-    ensures defined { IsOk result ↔ ((v < 2 ^ 63) × (first_broken (flags_of v) ≡ None)) }
+        ↔ ((v < word_limit) × (first_broken (flags_of v) ≡ Some s)) }
+    ensures defined { IsOk result ↔ ((v < word_limit) × (first_broken (flags_of v) ≡ None)) }
     ensures word { IfOk result (λ w. w ≡ word_of v) }
+    ensures encoded { IfOk result (λ w. word_number w ≡ v) }
 {
     if v >> 63 != 0 {
         return Err(WordFault::HighBit);
@@ -46,6 +48,7 @@ pub fn decode(v: u64) -> Result<Word, WordFault>
 }
 
 /// Bit `place` of `v`.
+#[tactic(auto, using(std::proofs::lemmas::Nat::Bits::shr_and_one))]
 fn is_set(v: u64, place: u32) -> bool
     requires { place < 64 }
     ensures { result ≡ bit v place }
@@ -54,14 +57,16 @@ fn is_set(v: u64, place: u32) -> bool
 }
 
 /// The offset whose sixteen bits begin at bit `place` of `v`.
+#[tactic(auto, using(std::proofs::lemmas::Nat::and_mask))]
 fn offset_at(v: u64, place: u32) -> i16
     requires { place < 64 }
     ensures { result ≡ offset v place }
 {
-    ((v >> place & 0xffff) as i32 - 0x8000) as i16
+    ((v >> place & 0xffff) as i32 - OFFSET_BIAS) as i16
 }
 
 /// The flags of the word `v`.
+#[tactic(auto, unfolding(crate::specs::Word::flags_of))]
 fn flags_in(v: u64) -> Flags
     ensures { result ≡ flags_of v }
 {
@@ -93,6 +98,7 @@ fn at_least_two(a: bool, b: bool, c: bool) -> bool
 
 impl Flags {
     /// Whether the flags break the shape.
+    #[tactic(auto, unfolding(crate::specs::Word::breaks))]
     fn is_breaking(self, shape: Shape) -> bool
         ensures { result ≡ breaks shape self }
     {
@@ -109,6 +115,7 @@ impl Flags {
     }
 
     /// The first shape that the flags break.
+    #[tactic(auto, unfolding(crate::specs::Word::first_broken))]
     fn first_broken(self) -> Option<Shape>
         ensures { result ≡ first_broken self }
     {

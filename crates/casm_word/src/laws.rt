@@ -1,12 +1,12 @@
 //! Laws of the definitions: functions that do nothing, and whose contracts say what always holds.
 
 ghost use Rattle.std.specs.Prelude.{◌≡◌, ℕ, ◌+◌, ◌<◌, ◌≤◌, ◌↔◌, List, Some, length, slice_get, slice_index_or};
-ghost use Rattle.casm_word.specs.Transition.{Memory, Registers, next, outcome, GoesOn};
+ghost use Rattle.casm_word.specs.Transition.{Memory, Registers, next, outcome, Next};
 ghost use Rattle.casm_word.specs.Run.{LegalRun};
 
 /// What a step comes to goes on exactly where the transition function has a value, and to that value.
 pub fn outcome_laws()
-    ensures goes_on { (m : Memory) (r t : Registers) → (outcome m r ≡ GoesOn t) ↔ (next m r ≡ Some t) }
+    ensures goes_on { (m : Memory) (r t : Registers) → (outcome m r ≡ Next t) ↔ (next m r ≡ Some t) }
 {}
 
 /// A legal run is one by its steps at each index, and where it begins and how long it is determine it.

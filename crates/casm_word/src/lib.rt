@@ -2,13 +2,19 @@
 #![tactic(auto)]
 
 mod decoder;
+mod encoder;
 mod laws;
 mod stepper;
+mod text;
 
 pub use decoder::decode;
+pub use encoder::encode;
 use goldilocks::Felt;
 pub use laws::{legal_run_laws, outcome_laws};
 pub use stepper::step;
+
+/// What is added to an offset in a word, 2^15.
+const OFFSET_BIAS: i32 = 0x8000;
 
 /// The fifteen flags of an instruction, in the order of bits 48 to 62 of its word.
 #[derive(Clone, Copy, Debug, PartialEq, Eq)]
@@ -116,7 +122,7 @@ pub trait Reads {
 pub enum StepResult {
     /// The next state.
     Next(State),
-    /// The cell at this address lacks, the first one that is asked for.
+    /// The cell at this address is missing, the first one that is asked for.
     NoCell(Felt),
     /// The cell at pc is no instruction.
     BadWord(WordFault),

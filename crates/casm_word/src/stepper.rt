@@ -1,8 +1,10 @@
 //! One step of the machine.
-#![tactic(auto, unfolding(crate::specs::Transition::registers, crate::specs::Transition::size, crate::specs::Transition::moved, crate::specs::Transition::dst_address, crate::specs::Transition::op0_address, crate::specs::Transition::op1_base, crate::specs::Transition::op1_address, crate::specs::Transition::res, crate::specs::Transition::following_pc, crate::specs::Transition::next_pc, crate::specs::Transition::next_ap, crate::specs::Transition::next_fp, crate::specs::Transition::next_registers, crate::specs::Transition::stores_return_pc, crate::specs::Transition::stores_caller_fp, crate::specs::Transition::meets_assertion, crate::specs::Transition::outcome_by, crate::specs::Transition::outcome_of))]
+#![tactic(auto, unfolding(crate::specs::Transition::registers, crate::specs::Transition::outcome_of))]
 
 ghost use Rattle.std.specs.Prelude.{◌≡◌};
-ghost use Rattle.casm_word.specs.Transition.{registers, size, moved, dst_address, op0_address, op1_address, res, following_pc, next_pc, next_ap, next_fp, outcome_by, next, outcome, outcome_of, reached};
+ghost use Rattle.casm_word.specs.Transition.{registers, size, moved, dst_address, op0_address, op1_address, res};
+ghost use Rattle.casm_word.specs.Transition.{following_pc, next_pc, next_ap, next_fp};
+ghost use Rattle.casm_word.specs.Transition.{next, outcome, outcome_by, outcome_of, reached};
 
 use crate::decoder::decode;
 use crate::{Flags, Reads, State, StepResult, Word};
@@ -10,9 +12,9 @@ use goldilocks::Felt;
 
 /// One step of the machine from the state `s`, in the memory `m`.
 ///
-/// The first of these that comes up is answered: [`StepResult::NoCell`] where the cell at pc lacks,
-/// [`StepResult::BadWord`] where it is no instruction, [`StepResult::NoCell`] where the cell of dst, op0 or op1 lacks,
-/// [`StepResult::CallPc`], [`StepResult::CallFp`], [`StepResult::NotEqual`]. Else it is [`StepResult::Next`].
+/// The first of these that comes up is answered: [`StepResult::NoCell`] where the cell at pc is missing,
+/// [`StepResult::BadWord`] where it is no instruction, [`StepResult::NoCell`] where the cell of dst, op0 or op1 is
+/// missing, [`StepResult::CallPc`], [`StepResult::CallFp`], [`StepResult::NotEqual`]. Else it is [`StepResult::Next`].
 pub fn step<M: Reads>(m: &M, s: State) -> StepResult
     ensures outcome { outcome_of result ≡ outcome (M.cells m.now) (registers s) }
     ensures next { reached result ≡ next (M.cells m.now) (registers s) }

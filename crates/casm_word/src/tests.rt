@@ -5,6 +5,7 @@ ghost use Rattle.goldilocks.specs.Field.{prime};
 
 use super::*;
 use goldilocks::PRIME;
+use std::test::Fail;
 
 /// The flags whose bits are listed.
 fn flags(bits: &[u8]) -> Flags {
@@ -28,7 +29,7 @@ fn flags(bits: &[u8]) -> Flags {
 }
 
 #[test]
-fn decodes_words(rt: HostRuntime) {
+fn decodes_and_encodes_words(rt: HostRuntime) {
     let cases: [(u64, i16, i16, i16, &[u8]); 20] = [
         // `ret`, `call rel imm`, `jmp rel imm`, `ap += imm`
         (0x208b7fff7fff7ffe, -2, -1, -1, &[48, 49, 51, 55, 61]),
@@ -64,7 +65,31 @@ fn decodes_words(rt: HostRuntime) {
             off_op1,
             flags: flags(bits),
         };
-        assert_eq!(rt; decode(number), Ok(word));
+        assert_eq!(rt; decode(number), Ok(word), "at {number:#x}");
+        assert_eq!(rt; encode(&word), number, "of {word:?}");
+    }
+}
+
+#[test]
+fn encodes_undefined_flags(rt: HostRuntime) {
+    let cases: [(i16, &[u8], u64); 4] = [
+        (0, &[53, 54], 0x0060_8000_8000_8000),
+        (0, &[48, 62], 0x4001_8000_8000_8000),
+        (-32768, &[60, 61, 62], 0x7000_0000_0000_0000),
+        (
+            32767,
+            &[48, 49, 50, 51, 52, 53, 54, 55, 56, 57, 58, 59, 60, 61, 62],
+            0x7fff_ffff_ffff_ffff,
+        ),
+    ];
+    for (offset, bits, number) in cases {
+        let word = Word {
+            off_dst: offset,
+            off_op0: offset,
+            off_op1: offset,
+            flags: flags(bits),
+        };
+        assert_eq!(rt; encode(&word), number, "of {word:?}");
     }
 }
 
@@ -97,10 +122,15 @@ fn tells_the_first_fault(rt: HostRuntime) {
         (0b001_1000_0000_0000, Shape::CallAp),
     ] {
         let number: u64 = flags << 48;
-        assert_eq!(rt; decode(number), Err(WordFault::Undefined(shape)));
+        assert_eq!(rt;
+            decode(number),
+            Err(WordFault::Undefined(shape)),
+            "at {number:#x}"
+        );
         assert_eq!(rt;
             decode(number | 0x8000_0000_0000_0000),
-            Err(WordFault::HighBit)
+            Err(WordFault::HighBit),
+            "at {number:#x} with bit 63"
         );
     }
     assert_eq!(rt; decode(0x8000_0000_0000_0000), Err(WordFault::HighBit));
@@ -170,7 +200,7 @@ fn runs_a_program(rt: HostRuntime) {
         (state(7, 14, 14), next(9, 15, 14)),
         (state(9, 15, 14), next(5, 15, 12)),
     ] {
-        assert_eq!(rt; step(&m, s), answer);
+        assert_eq!(rt; step(&m, s), answer, "from {s:?}");
     }
 }
 
@@ -199,7 +229,11 @@ fn tells_causes_in_their_order(rt: HostRuntime) {
         (&[CALL, (2, 4), (10, 21), (11, 3)], StepResult::CallFp),
     ];
     for (cells, answer) in cases {
-        assert_eq!(rt; step(&Cells(cells), state(1, 10, 20)), answer);
+        assert_eq!(rt;
+            step(&Cells(cells), state(1, 10, 20)),
+            answer,
+            "in {cells:?}"
+        );
     }
 }
 
@@ -255,11 +289,43 @@ fn takes_operands_and_moves(rt: HostRuntime) {
         ),
     ];
     for (cells, answer) in cases {
-        assert_eq!(rt; step(&Cells(cells), state(1, 10, 20)), answer);
+        assert_eq!(rt;
+            step(&Cells(cells), state(1, 10, 20)),
+            answer,
+            "in {cells:?}"
+        );
     }
     // sums of addresses go past the last one, and below 0
     let around = Cells(&[(1, 0x4002800080007fff), (LAST, 9), (20, 30), (30, 9)]);
     assert_eq!(rt; step(&around, state(1, 0, 20)), next(2, 0, 20));
     let at_end = Cells(&[(LAST, 0x00037fff7fff7fff), (19, 21), (20, 0)]);
     assert_eq!(rt; step(&at_end, state(LAST, 10, 20)), next(0, 10, 20));
+}
+
+#[test]
+fn prints_causes(rt: HostRuntime) -> Result<(), Fail> {
+    for (result, text) in [
+        (next(1, 2, 3), "Mismatch"),
+        (no_cell(18446744069414584320), "NoCell 18446744069414584320"),
+        (StepResult::BadWord(WordFault::HighBit), "BadWord HighBit"),
+        (undefined(Shape::Op1), "BadWord Undefined Op1"),
+        (undefined(Shape::Res), "BadWord Undefined Res"),
+        (undefined(Shape::Pc), "BadWord Undefined Pc"),
+        (undefined(Shape::Opcode), "BadWord Undefined Opcode"),
+        (undefined(Shape::ApBoth), "BadWord Undefined ApBoth"),
+        (undefined(Shape::JnzOpcode), "BadWord Undefined JnzOpcode"),
+        (undefined(Shape::JnzAp), "BadWord Undefined JnzAp"),
+        (undefined(Shape::CallAp), "BadWord Undefined CallAp"),
+        (StepResult::CallPc, "CallPc"),
+        (StepResult::CallFp, "CallFp"),
+        (StepResult::NotEqual, "NotEqual"),
+    ] {
+        let printed = format!(in rt.alloc(); "{result}")?;
+        assert_eq!(rt; printed.as_str(), text, "of {result:?}");
+    }
+    Ok(())
+}
+
+fn undefined(shape: Shape) -> StepResult {
+    StepResult::BadWord(WordFault::Undefined(shape))
 }

@@ -1,8 +1,13 @@
 -- What the stores and sinks in memory hold. The whitepaper speaks of no files; all of this is the project's
 -- own.
-use Rattle.std.specs.Prelude.{ℕ, ◌+◌, ◌-◌, ◌^◌, min, List, [], drop, Contains, Option, None, Some, slice_get}
+use Rattle.std.specs.Prelude.{◌≡◌, ◌↔◌, ℕ, ◌+◌, min, List, [], drop, Contains, Option, None, Some, Result, slice_get}
+use Rattle.std.specs.Result.{IsErrOf}
+use Rattle.file_port.specs.Counts.{last_count}
 use Rattle.file_port.specs.Files.{Name, Files, files_of, named_bytes}
-use Rattle.file_port.specs.declared.sure.Place.{Place}
+use Rattle.file_port.specs.Seen.{Seen}
+use Rattle.file_port.specs.declared.ports.PortError.{PortError}
+use Rattle.file_port.specs.declared.ports.PortError.TheVariants.{Failed}
+use Rattle.file_port.specs.declared.sure.ReadPosition.{ReadPosition}
 use Rattle.file_port.specs.declared.sure.SureStore.{SureStore}
 use Rattle.file_port.specs.declared.memory.MemoryStore.{MemoryStore}
 use Rattle.file_port.specs.declared.memory.MemorySink.{MemorySink}
@@ -13,26 +18,40 @@ rest_at None offset = []
 rest_at (Some file) offset = drop offset file.1
 
 -- What is left of the read that was begun, if one was. Own.
-abbrev pub left_at : List (Name × List ℕ) → Option Place → List ℕ
+abbrev pub left_at : List (Name × List ℕ) → Option ReadPosition → List ℕ
 left_at files None = []
 left_at files (Some place) = rest_at (slice_get files place.file) place.offset
 
--- The files that a store in memory holds. Own.
-abbrev pub files_held : SureStore → Files
-files_held store = files_of (named_bytes store.files.items)
+-- What is seen of a store in memory. Own.
+abbrev pub seen_of : SureStore → Seen
+seen_of store = record {
+  files = Some (files_of (named_bytes store.files.items));
+  reading = Some (left_at (named_bytes store.files.items) store.reading);
+  given = store.given;
+  faults = 0;
+  absent = store.absent;
+  torn = 0;
+}
 
--- What a store in memory has left of the read that was begun. Own.
-abbrev pub bytes_left : SureStore → List ℕ
-bytes_left store = left_at (named_bytes store.files.items) store.reading
+-- What is seen of a new store that tells these files: no read is begun, and all counts are 0. Own.
+abbrev pub fresh_store : Files → Seen
+fresh_store files = record { files = Some files; reading = Some []; given = 0; faults = 0; absent = 0; torn = 0 }
 
--- The number of the call after so many: calls are numbered from 1 up to the last value of 64 bits, which
--- all later ones have. Own.
+-- The number of a call, where this many were made before it. Calls are numbered from 1 on, and those past the
+-- last value of a count have that one. Own.
 abbrev pub call_number : ℕ → ℕ
-call_number made = min (made + 1) (2 ^ 64 - 1)
+call_number made = min (made + 1) last_count
 
--- The call after so many is one of those that are to fail, which are listed by their numbers. Own.
+-- The next call, where this many were made, is one of those that are to fail, which are listed by their numbers. Own.
 abbrev pub IsNextListed : List ℕ → ℕ → Type 0
 IsNextListed listed made = Contains listed (call_number made)
+
+-- Exactly the listed calls fail: this one fails where its number is listed. It is counted, and the list stays.
+-- Own.
+pub record CallsListed {T : Type 0} (listed : List ℕ) (made : ℕ) (listed_after : List ℕ) (made_after : ℕ) (result : Result T PortError) : Type 0 where
+  pub fails : IsErrOf result Failed ↔ IsNextListed listed made
+  pub counted : made_after ≡ call_number made
+  pub kept : listed_after ≡ listed
 
 -- The numbers of a store's calls that are to fail. Own.
 abbrev pub listed_calls : MemoryStore → List ℕ

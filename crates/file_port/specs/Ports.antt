@@ -1,5 +1,5 @@
--- What the calls of a store and of a sink answer and leave. The whitepaper speaks of no files; all of this
--- is the project's own.
+-- Words for what the calls of a store and of a sink answer and leave. The whitepaper speaks of no files; all
+-- of this is the project's own.
 use Rattle.std.specs.Prelude.{◌≡◌, ℕ, Bool, true, false, List, take, ⊤, Option, None, Some, is_some, IsSome, Result, Ok, Err, codes}
 use Rattle.std.specs.Io.KnownBytes.{Appends}
 use Rattle.file_port.specs.Files.{Name, Files, file_at}
@@ -40,10 +40,16 @@ abbrev pub HoldsWhole : Option Files → Name → Option (List ℕ) → Type 0
 HoldsWhole None name left = ⊤
 HoldsWhole (Some files) name left = IsSome left × (left ≡ file_at files name)
 
--- The files, where they are told, lack the name. Own.
-abbrev pub LacksName : Option Files → Name → Type 0
-LacksName None name = ⊤
-LacksName (Some files) name = file_at files name ≡ None
+-- The files, where they are told, have no file of the name. Own.
+abbrev pub IsAbsent : Option Files → Name → Type 0
+IsAbsent None name = ⊤
+IsAbsent (Some files) name = file_at files name ≡ None
+
+-- Files that are told, and are the same but at this name, which may hold anything now or be missing. Own.
+abbrev pub ChangesOnly : Name → Option Files → Option Files → Type 0
+ChangesOnly name None now = ⊤
+ChangesOnly name (Some files) None = ⊥
+ChangesOnly name (Some files) (Some now) = (other : Name) → (other ≡ name → ⊥) → file_at now other ≡ file_at files other
 
 -- Known bytes grew by a prefix of bs. Own.
 abbrev pub AppendsPrefix : Option (List ℕ) → Option (List ℕ) → List ℕ → Type 0

@@ -1,4 +1,4 @@
-//! A store to read named files from and a sink to write lines to, with their faults counted.
+//! A store of named files and a sink for lines, with their faults counted.
 //!
 //! Programs are written over the traits [`Store`] and [`Sink`]. [`SureStore`] and [`SureSink`] hold all in
 //! memory and have no faults, [`MemoryStore`] and [`MemorySink`] fail at the calls that a test lists, and

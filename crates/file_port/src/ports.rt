@@ -1,13 +1,9 @@
 //! The two traits, and why a call on one of them can fail.
 
-ghost use Rattle.std.specs.Prelude.{◌≡◌, ℕ, ◌<◌, List, take, length, Option, IsSome, IfOk, OnOk, OnErr, MatchResult, false, Some};
-ghost use Rattle.std.specs.Result.{IsOkAnd, IsErrOf};
-ghost use Rattle.std.specs.Io.{ReadsAtMost};
-ghost use Rattle.std.specs.Io.KnownBytes.{Appends, Consumes, IsAtEnd, Keeps};
-ghost use Rattle.file_port.specs.Files.{Files};
-ghost use Rattle.file_port.specs.Counts.{Counts, given_after};
+ghost use Rattle.std.specs.Prelude.{◌≡◌, IsSome, Some};
+ghost use Rattle.file_port.specs.Seen.{Seen, BeginsRead, ReadsNext, Replaces, SinkSeen, Puts};
 ghost use Rattle.file_port.specs.declared.ports.PortError.TheVariants.{Memory};
-ghost use Rattle.file_port.specs.Ports.{OnFound, OnMissing, OnFailed, OnMemory, HoldsWhole, LacksName, AppendsPrefix, TellsAlike, error_text};
+ghost use Rattle.file_port.specs.Ports.{error_text};
 
 use std::alloc::{AllocError, Global};
 use std::error::Error;
@@ -43,83 +39,49 @@ impl From<AllocError> for PortError {
     }
 }
 
-/// Named files, one of which is read at a time from its first byte on.
+/// Named files, one of which is read at a time from its first byte on, and which are replaced as a whole.
 ///
 /// A store may tell what it holds. No call changes whether it does.
 pub trait Store {
-    // The files, where the store tells them.
-    ghost files: { Self → Option Files };
-
-    // What is left of the read that was begun, where the store tells it.
-    ghost reading: { Self → Option (List ℕ) };
-
-    // How many bytes were handed out so far.
-    ghost given: { Self → ℕ };
-
-    // How many calls failed so far.
-    ghost faults: { Self → ℕ };
-
-    // How many names were asked for that are not there.
-    ghost absent: { Self → ℕ };
+    // The files and what is left of the read that was begun, where the store tells them, and all counts.
+    ghost seen: { Self → Seen };
 
     /// Begins to read the file `name`, in place of the read that was begun before.
     ///
     /// `Ok(true)` says that the file is there, and `Ok(false)` that it is missing, which is no
     /// fault. `Failed` says that the files could not answer, and `Memory` that memory ran out.
+    /// After both nothing is left to read.
     fn begin_read(&mut self, alloc: Global, name: &str) -> Result<bool, PortError>
-        ensures found { OnFound result (HoldsWhole (files self.old) name.now (reading self.new)) }
-        ensures lacking { OnMissing result (LacksName (files self.old) name.now) }
-        ensures none_left { OnMissing result (IsAtEnd (reading self.new)) }
-        ensures error { OnErr result (IsAtEnd (reading self.new)) }
-        ensures files_kept { files self.new ≡ files self.old }
-        ensures tells { TellsAlike (reading self.old) (reading self.new) }
-        ensures given { given self.new ≡ given self.old }
-        ensures faults { Counts (faults self.old) (faults self.new)
-            (IsErrOf result PortError.Failed) }
-        ensures absent { Counts (absent self.old) (absent self.new)
-            (IsOkAnd result (λ found. found ≡ false)) };
+        ensures begins { BeginsRead name.now (seen self.old) (seen self.new) result };
 
     /// Reads the next bytes into the front of `buf`, and answers how many.
     ///
     /// Where `buf` is not empty, it answers 0 exactly at the end of the file or where no read was
     /// begun. After `Failed` and `Memory` nothing is left to read.
     fn read(&mut self, alloc: Global, buf: &mut [u8]) -> Result<usize, PortError>
-        ensures at_most { ReadsAtMost result buf.new }
-        ensures front { IfOk result
-            (λ n. Consumes (reading self.old) (reading self.new) (take n buf.new)) }
-        ensures end { IfOk result (λ n. n ≡ 0 → 0 < length buf.new → IsAtEnd (reading self.old)) }
-        ensures error { OnErr result (IsAtEnd (reading self.new)) }
-        ensures files_kept { files self.new ≡ files self.old }
-        ensures tells { TellsAlike (reading self.old) (reading self.new) }
-        ensures given { MatchResult result (λ n. given self.new ≡ given_after (given self.old) n)
-            (λ _. given self.new ≡ given self.old) }
-        ensures faults { Counts (faults self.old) (faults self.new)
-            (IsErrOf result PortError.Failed) }
-        ensures absent { absent self.new ≡ absent self.old };
+        ensures reads { ReadsNext buf.new (seen self.old) (seen self.new) result };
+
+    /// Makes the file `name` hold `bytes`, whatever it held before. The read that was begun ends.
+    ///
+    /// After `Failed` the file may hold anything or be missing, and all others are as before. After
+    /// `Memory` all files are as before.
+    fn replace(&mut self, alloc: Global, name: &str, bytes: &[u8]) -> Result<(), PortError>
+        ensures replaces { Replaces name.now bytes.now (seen self.old) (seen self.new) result };
 
     // A store that tells its files tells what is left to read, too.
-    ghost tells_both: { (store : Self) → IsSome (files store) → IsSome (reading store) };
+    ghost tells_both: { (store : Self) → IsSome (seen store).files → IsSome (seen store).reading };
 }
 
 /// A place to write to, one piece after the other.
 ///
 /// A sink may tell what was written. No call changes whether it does.
 pub trait Sink {
-    // What was written so far, where the sink tells it.
-    ghost written: { Self → Option (List ℕ) };
-
-    // How many calls failed so far.
-    ghost faults: { Self → ℕ };
+    // What was written so far, where the sink tells it, and how many calls failed.
+    ghost seen: { Self → SinkSeen };
 
     /// Writes `bytes` after all that was written before.
     ///
     /// After `Failed` a prefix of them was written, and after `Memory` none.
     fn put(&mut self, alloc: Global, bytes: &[u8]) -> Result<(), PortError>
-        ensures ok { OnOk result (Appends (written self.old) (written self.new) bytes.now) }
-        ensures failed { OnFailed result
-            (AppendsPrefix (written self.old) (written self.new) bytes.now) }
-        ensures memory { OnMemory result (Keeps (written self.old) (written self.new)) }
-        ensures tells { TellsAlike (written self.old) (written self.new) }
-        ensures faults { Counts (faults self.old) (faults self.new)
-            (IsErrOf result PortError.Failed) };
+        ensures puts { Puts bytes.now (seen self.old) (seen self.new) result };
 }

@@ -1,23 +1,17 @@
 //! A store and a sink in memory, which have no faults.
 
-ghost use Rattle.std.specs.Prelude.{◌≡◌, ◌+◌, ◌^◌, ◌<◌, min, [], length, take, drop, Some, None, IfSome, IfOk, OnErr, MatchResult, slice_get, refl};
+ghost use Rattle.std.specs.Prelude.{◌≡◌, ◌+◌, ◌^◌, ◌<◌, min, [], length, take, drop, Some, IfSome, IfOk, slice_get, refl};
 ghost use Rattle.std.specs.Option.{option_map, option_copied};
-ghost use Rattle.std.specs.Result.{IsErrOf};
-ghost use Rattle.std.specs.Io.{ReadsAtMost};
-ghost use Rattle.std.specs.Io.KnownBytes.{Consumes, IsAtEnd};
-ghost use Rattle.file_port.specs.declared.sure.SureStore.{SureStore};
-ghost use Rattle.file_port.specs.declared.sure.SureSink.{SureSink};
 ghost use Rattle.file_port.specs.Files.{files_of, named_bytes, file_at};
-ghost use Rattle.file_port.specs.Counts.{Counts, given_after};
-ghost use Rattle.file_port.specs.Ports.{TellsAlike};
-ghost use Rattle.file_port.specs.Kept.{files_held, bytes_left, left_at, rest_at};
+ghost use Rattle.file_port.specs.Seen.{ReadsNext};
+ghost use Rattle.file_port.specs.Kept.{left_at, rest_at};
 
 use crate::ports::{PortError, Sink, Store};
 use std::alloc::Global;
 
 /// Where a read stands: the index of its file, and how many of that file's bytes were handed out.
 #[derive(Clone, Copy)]
-pub struct Place {
+pub struct ReadPosition {
     pub file: usize,
     pub offset: usize,
 }
@@ -26,20 +20,19 @@ pub struct Place {
 #[derive(Drop)]
 pub struct SureStore {
     files: Vec<(String, Vec<u8>)>,
-    reading: Option<Place>,
+    reading: Option<ReadPosition>,
     given: u64,
     absent: u64,
 }
 
 impl SureStore {
+    ghost use Rattle.file_port.specs.Kept.{fresh_store};
+
     /// A store of these files. Of equal names the last counts.
     pub fn new(files: Vec<(String, Vec<u8>)>) -> SureStore
-        ensures files { ⟦<SureStore as Store>⟧.files result
-            ≡ Some (files_of (named_bytes files.items)) }
-        ensures reading { ⟦<SureStore as Store>⟧.reading result ≡ Some [] }
-        ensures given { ⟦<SureStore as Store>⟧.given result ≡ 0 }
-        ensures absent { ⟦<SureStore as Store>⟧.absent result ≡ 0 }
-        ensures no_faults { (store : SureStore) → ⟦<SureStore as Store>⟧.faults store ≡ 0 }
+        ensures seen { ⟦<SureStore as Store>⟧.seen result ≡ fresh_store (files_of (named_bytes files.items)) }
+        ensures no_faults { (store : SureStore) → (⟦<SureStore as Store>⟧.seen store).faults ≡ 0 }
+        ensures none_torn { (store : SureStore) → (⟦<SureStore as Store>⟧.seen store).torn ≡ 0 }
     {
         SureStore {
             files,
@@ -49,9 +42,9 @@ impl SureStore {
         }
     }
 
-    /// The bytes of the file `name`, or `None` exactly where the files lack it.
+    /// The bytes of the file `name`, or `None` exactly where it is missing.
     pub fn file(&self, name: &str) -> Option<&[u8]>
-        ensures { IfSome (⟦<SureStore as Store>⟧.files self.now)
+        ensures { IfSome (⟦<SureStore as Store>⟧.seen self.now).files
             (λ files. option_copied result ≡ file_at files name.now) }
     {
         let index = last_named(&self.files, name)?;
@@ -67,21 +60,15 @@ impl SureStore {
 }
 
 impl Store for SureStore {
-    ghost files = { λ s. Some (files_held s) };
+    ghost use Rattle.file_port.specs.Kept.{seen_of};
 
-    ghost reading = { λ s. Some (bytes_left s) };
-
-    ghost given = { λ s. s.given };
-
-    ghost faults = { λ _. 0 };
-
-    ghost absent = { λ s. s.absent };
+    ghost seen = { λ s. seen_of s };
 
     fn begin_read(&mut self, _alloc: Global, name: &str) -> Result<bool, PortError> {
         self.reading = None;
         match last_named(&self.files, name) {
             Some(file) => {
-                self.reading = Some(Place { file, offset: 0 });
+                self.reading = Some(ReadPosition { file, offset: 0 });
                 Ok(true)
             }
             None => {
@@ -92,40 +79,32 @@ impl Store for SureStore {
     }
 
     fn read(&mut self, _alloc: Global, buf: &mut [u8]) -> Result<usize, PortError>
+        ensures reads { ReadsNext buf.new (⟦<SureStore as Store>⟧.seen self.old) (⟦<SureStore as Store>⟧.seen self.new) result }
         // As many bytes as fit.
-        ensures fits { IfOk result (λ n. IfSome (⟦<SureStore as Store>⟧.reading self.old)
+        ensures fits { IfOk result (λ n. IfSome (⟦<SureStore as Store>⟧.seen self.old).reading
             (λ left. n ≡ min (length left) (length buf.new))) }
-        // The rest is what each store ensures.
-        ensures at_most { ReadsAtMost result buf.new }
-        ensures front { IfOk result (λ n. Consumes (⟦<SureStore as Store>⟧.reading self.old)
-            (⟦<SureStore as Store>⟧.reading self.new) (take n buf.new)) }
-        ensures end { IfOk result (λ n. n ≡ 0 → 0 < length buf.new →
-            IsAtEnd (⟦<SureStore as Store>⟧.reading self.old)) }
-        ensures error { OnErr result (IsAtEnd (⟦<SureStore as Store>⟧.reading self.new)) }
-        ensures files_kept { ⟦<SureStore as Store>⟧.files self.new
-            ≡ ⟦<SureStore as Store>⟧.files self.old }
-        ensures tells { TellsAlike (⟦<SureStore as Store>⟧.reading self.old)
-            (⟦<SureStore as Store>⟧.reading self.new) }
-        ensures given { MatchResult result
-            (λ n. ⟦<SureStore as Store>⟧.given self.new
-            ≡ given_after (⟦<SureStore as Store>⟧.given self.old) n)
-            (λ _. ⟦<SureStore as Store>⟧.given self.new ≡ ⟦<SureStore as Store>⟧.given self.old) }
-        ensures faults { Counts (⟦<SureStore as Store>⟧.faults self.old)
-            (⟦<SureStore as Store>⟧.faults self.new)
-            (IsErrOf result PortError.Failed) }
-        ensures absent { ⟦<SureStore as Store>⟧.absent self.new
-            ≡ ⟦<SureStore as Store>⟧.absent self.old }
     {
         let Some(place) = self.reading else {
             return Ok(0);
         };
         let count = copy_front(rest(&self.files, place), buf);
-        self.reading = Some(Place {
+        self.reading = Some(ReadPosition {
             file: place.file,
             offset: place.offset + count,
         });
         self.given = self.given.saturating_add(count as u64);
         Ok(count)
+    }
+
+    fn replace(&mut self, alloc: Global, name: &str, bytes: &[u8]) -> Result<(), PortError> {
+        self.reading = None;
+        let name = String::from_str(alloc, name)?;
+        let bytes = Vec::from_slice(alloc, bytes)?;
+        // Of equal names the last counts.
+        match self.files.push((name, bytes)) {
+            Ok(()) => Ok(()),
+            Err(_) => Err(PortError::Memory),
+        }
     }
 
     ghost tells_both = { λ _ _. refl };
@@ -147,7 +126,7 @@ fn last_named(files: &[(String, Vec<u8>)], name: &str) -> Option<usize>
 }
 
 /// The bytes that a read at this place has left.
-fn rest(files: &[(String, Vec<u8>)], place: Place) -> &[u8]
+fn rest(files: &[(String, Vec<u8>)], place: ReadPosition) -> &[u8]
     ensures left { result.now ≡ left_at (named_bytes files.now) (Some place) }
     ensures room { 0 < length result.now → place.offset + length result.now < 2 ^ 64 }
 {
@@ -188,8 +167,8 @@ pub struct SureSink {
 impl SureSink {
     /// A sink to which nothing was written. Its calls of `put` take their memory from `alloc`.
     pub fn new(alloc: Global) -> SureSink
-        ensures written { ⟦<SureSink as Sink>⟧.written result ≡ Some [] }
-        ensures no_faults { (sink : SureSink) → ⟦<SureSink as Sink>⟧.faults sink ≡ 0 }
+        ensures seen { ⟦<SureSink as Sink>⟧.seen result ≡ record { written = Some []; faults = 0 } }
+        ensures no_faults { (sink : SureSink) → (⟦<SureSink as Sink>⟧.seen sink).faults ≡ 0 }
     {
         SureSink {
             written: Vec::new(alloc),
@@ -198,16 +177,16 @@ impl SureSink {
 
     /// What was written so far.
     pub fn bytes(&self) -> &[u8]
-        ensures { ⟦<SureSink as Sink>⟧.written self.now ≡ Some result.now }
+        ensures { (⟦<SureSink as Sink>⟧.seen self.now).written ≡ Some result.now }
     {
         self.written.as_slice()
     }
 }
 
 impl Sink for SureSink {
-    ghost written = { λ s. Some s.written.items };
+    ghost use Rattle.std.specs.Prelude.{Some};
 
-    ghost faults = { λ _. 0 };
+    ghost seen = { λ s. record { written = Some s.written.items; faults = 0 } };
 
     fn put(&mut self, _alloc: Global, bytes: &[u8]) -> Result<(), PortError> {
         match self.written.extend_from_slice(bytes) {

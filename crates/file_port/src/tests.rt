@@ -6,6 +6,8 @@ use std::process::Abort;
 use std::test::Fail;
 use std::{env, fs, io};
 
+mod faulty;
+
 /// A call on a store, and what it must answer.
 #[derive(Drop)]
 enum Step<'a> {
@@ -13,9 +15,11 @@ enum Step<'a> {
     Begin(&'a str, Result<bool, PortError>),
     /// `read` into at most 8 bytes: the bytes that it gives, or `None` where it fails.
     Read(usize, Option<&'static [u8]>),
+    /// `replace` of a name by these bytes.
+    Replace(&'a str, &'static [u8], Result<(), PortError>),
 }
 
-use Step::{Begin, Read};
+use Step::{Begin, Read, Replace};
 
 const FAILED: Result<bool, PortError> = Err(PortError::Failed);
 
@@ -41,29 +45,43 @@ fn some_files(alloc: Global) -> Result<Vec<(String, Vec<u8>)>, AllocError> {
     )
 }
 
-fn follow<S: Store>(rt: &impl Abort, alloc: Global, store: &mut S, steps: &[Step]) {
+fn follow<S: Store>(rt: &impl Abort, alloc: Global, row: &str, store: &mut S, steps: &[Step]) {
     for step in steps {
         match step {
             Begin(name, wanted) => {
-                assert_eq!(rt;
-                    store.begin_read(alloc, name),
-                    *wanted,
-                    "begin_read of {name}"
-                );
+                let answer = store.begin_read(alloc, name);
+                assert_eq!(rt; answer, *wanted, "{row}: begin_read of {name}");
             }
-            Read(room, wanted) => {
-                let mut buf = [0x55u8; 8];
-                let room = (*room).min(8);
-                match (store.read(alloc, &mut buf[..room]), wanted) {
-                    (Ok(count), Some(bytes)) => {
-                        assert!(rt; count <= room);
-                        assert_eq!(rt; &buf[..count], *bytes);
-                    }
-                    (Err(error), None) => assert_eq!(rt; error, PortError::Failed),
-                    _ => panic!(rt; "read answered otherwise"),
-                }
+            Read(room, wanted) => read_step(rt, alloc, row, store, *room, *wanted),
+            Replace(name, bytes, wanted) => {
+                let answer = store.replace(alloc, name, bytes);
+                assert_eq!(rt; answer, *wanted, "{row}: replace of {name}");
             }
         }
+    }
+}
+
+fn read_step<S: Store>(
+    rt: &impl Abort,
+    alloc: Global,
+    row: &str,
+    store: &mut S,
+    room: usize,
+    wanted: Option<&[u8]>,
+) {
+    let mut buf = [0x55u8; 8];
+    let room = room.min(8);
+    match (store.read(alloc, &mut buf[..room]), wanted) {
+        (Ok(count), Some(bytes)) => {
+            assert!(rt; count <= room, "{row}: {count} bytes in a room of {room}");
+            assert_eq!(rt; &buf[..count], bytes, "{row}: the bytes read");
+        }
+        (Err(error), None) => assert_eq!(rt;
+            error,
+            PortError::Failed,
+            "{row}: the fault of a read"
+        ),
+        _ => panic!(rt; "{row}: read answered otherwise"),
     }
 }
 
@@ -92,35 +110,49 @@ const SURE_STEPS: &[Step] = &[
     Begin("ab", Ok(true)),
     Read(8, Some(b"\x00\xff")),
     Begin("", Ok(false)),
+    Begin("a", Ok(true)),
+    Replace("c", b"made", Ok(())),
+    Read(4, Some(b"")),
+    Begin("c", Ok(true)),
+    Read(8, Some(b"made")),
+    Replace("a", b"", Ok(())),
+    Begin("a", Ok(true)),
+    Read(8, Some(b"")),
+    Replace("a", b"again", Ok(())),
+    Begin("a", Ok(true)),
+    Read(8, Some(b"again")),
+    Begin("b", Ok(true)),
+    Read(8, Some(b"new!")),
 ];
 
 #[test]
 fn sure_store_answers(rt: HostRuntime) -> Result<(), Fail> {
     let alloc = rt.alloc();
     let mut store = SureStore::new(some_files(alloc)?);
-    follow(&rt, alloc, &mut store, SURE_STEPS);
+    follow(&rt, alloc, "sure", &mut store, SURE_STEPS);
     let held: [(&str, Option<&[u8]>); 6] = [
-        ("a", Some(b"abcdefg")),
+        ("a", Some(b"again")),
         ("b", Some(b"new!")),
+        ("c", Some(b"made")),
         ("e", Some(b"")),
         ("ab", Some(b"\x00\xff")),
-        ("c", None),
         ("", None),
     ];
     for (name, wanted) in held {
         match (store.file(name), wanted) {
-            (Some(bytes), Some(wanted)) => assert_eq!(rt; bytes, wanted),
+            (Some(bytes), Some(wanted)) => assert_eq!(rt; bytes, wanted, "the file {name}"),
             (None, None) => {}
-            _ => panic!(rt; "file answered otherwise"),
+            _ => panic!(rt; "the file {name} is there otherwise"),
         }
     }
     Ok(())
 }
 
-/// Lists of failing calls, each with what a store that has it answers.
-const FAILING_STEPS: &[(&[u32], &[Step])] = &[
-    (&[0, 24, u32::MAX], SURE_STEPS),
+/// Lists of failing calls, each with its name and what a store that has it answers.
+const FAILING_STEPS: &[(&str, &[u32], &[Step])] = &[
+    ("none of the calls", &[0, 99, u32::MAX], SURE_STEPS),
     (
+        "the first begin",
         &[1],
         &[
             Begin("a", FAILED),
@@ -130,6 +162,7 @@ const FAILING_STEPS: &[(&[u32], &[Step])] = &[
         ],
     ),
     (
+        "the first read",
         &[2],
         &[
             Begin("a", Ok(true)),
@@ -140,6 +173,7 @@ const FAILING_STEPS: &[(&[u32], &[Step])] = &[
         ],
     ),
     (
+        "a later read",
         &[3],
         &[
             Begin("a", Ok(true)),
@@ -149,6 +183,7 @@ const FAILING_STEPS: &[(&[u32], &[Step])] = &[
         ],
     ),
     (
+        "two in a row, one listed twice",
         &[3, 2, 3],
         &[
             Begin("b", Ok(true)),
@@ -158,21 +193,40 @@ const FAILING_STEPS: &[(&[u32], &[Step])] = &[
             Read(4, Some(b"")),
         ],
     ),
-    (&[1, 2], &[Read(4, None), Read(0, None), Read(0, Some(b""))]),
     (
+        "reads of nothing",
+        &[1, 2],
+        &[Read(4, None), Read(0, None), Read(0, Some(b""))],
+    ),
+    (
+        "a begin in the middle of a read",
         &[2],
         &[Begin("a", Ok(true)), Begin("b", FAILED), Read(4, Some(b""))],
+    ),
+    (
+        "a replace",
+        &[2],
+        &[
+            Begin("b", Ok(true)),
+            Replace("b", b"no", Err(PortError::Failed)),
+            Read(4, Some(b"")),
+            Begin("b", Ok(true)),
+            Read(8, Some(b"new!")),
+            Replace("b", b"yes", Ok(())),
+            Begin("b", Ok(true)),
+            Read(8, Some(b"yes")),
+        ],
     ),
 ];
 
 #[test]
 fn memory_store_fails_at_listed_calls(rt: HostRuntime) -> Result<(), Fail> {
     let alloc = rt.alloc();
-    for (fails, steps) in FAILING_STEPS {
+    for (row, fails, steps) in FAILING_STEPS {
         let mut store = MemoryStore::new(some_files(alloc)?, Vec::from_slice(alloc, fails)?);
-        follow(&rt, alloc, &mut store, steps);
-        assert!(rt; store.file("b").is_some());
-        assert!(rt; store.file("c").is_none());
+        follow(&rt, alloc, row, &mut store, steps);
+        assert!(rt; store.file("b").is_some(), "{row}: b is there");
+        assert!(rt; store.file("d").is_none(), "{row}: d is missing");
     }
     Ok(())
 }
@@ -180,25 +234,28 @@ fn memory_store_fails_at_listed_calls(rt: HostRuntime) -> Result<(), Fail> {
 /// Bytes that are put, and what `put` must answer.
 type Put = (&'static [u8], Result<(), PortError>);
 
-fn put_all<K: Sink>(rt: &impl Abort, alloc: Global, sink: &mut K, puts: &[Put]) {
+fn put_all<K: Sink>(rt: &impl Abort, alloc: Global, row: &str, sink: &mut K, puts: &[Put]) {
     for (bytes, wanted) in puts {
-        assert_eq!(rt; sink.put(alloc, bytes), *wanted);
+        assert_eq!(rt; sink.put(alloc, bytes), *wanted, "{row}: put of {bytes:?}");
     }
 }
 
-/// Lists of failing calls, each with calls on a sink that has it and the bytes that it then holds.
-const FAILING_PUTS: &[(&[u32], &[Put], &[u8])] = &[
+/// Lists of failing calls, each with its name, the calls on a sink that has it and the bytes that it then holds.
+const FAILING_PUTS: &[(&str, &[u32], &[Put], &[u8])] = &[
     (
+        "none of the calls",
         &[],
         &[(b"ab", Ok(())), (b"", Ok(())), (b"\x00c\n", Ok(()))],
         b"ab\x00c\n",
     ),
     (
+        "the first put",
         &[1],
         &[(b"ab", Err(PortError::Failed)), (b"c", Ok(()))],
         b"c",
     ),
     (
+        "two puts",
         &[2, 4],
         &[
             (b"ab", Ok(())),
@@ -209,25 +266,52 @@ const FAILING_PUTS: &[(&[u32], &[Put], &[u8])] = &[
         ],
         b"abdf",
     ),
-    (&[0, 3], &[(b"ab", Ok(())), (b"c", Ok(()))], b"abc"),
+    (
+        "a call that is not made",
+        &[0, 3],
+        &[(b"ab", Ok(())), (b"c", Ok(()))],
+        b"abc",
+    ),
 ];
 
 #[test]
 fn sinks_in_memory_append(rt: HostRuntime) -> Result<(), Fail> {
     let alloc = rt.alloc();
-    for (fails, puts, written) in FAILING_PUTS {
+    for (row, fails, puts, written) in FAILING_PUTS {
         let mut sink = MemorySink::new(alloc, Vec::from_slice(alloc, fails)?);
-        put_all(&rt, alloc, &mut sink, puts);
-        assert_eq!(rt; sink.bytes(), *written);
+        put_all(&rt, alloc, row, &mut sink, puts);
+        assert_eq!(rt; sink.bytes(), *written, "{row}: what was written");
     }
     let mut sure = SureSink::new(alloc);
-    put_all(&rt, alloc, &mut sure, &[(b"ab", Ok(())), (b"c", Ok(()))]);
+    put_all(
+        &rt,
+        alloc,
+        "sure",
+        &mut sure,
+        &[(b"ab", Ok(())), (b"c", Ok(()))],
+    );
     assert_eq!(rt; sure.bytes(), b"abc".as_slice());
     Ok(())
 }
 
+fn follow_real_file<S: Store>(rt: &impl Abort, alloc: Global, store: &mut S, name: &str) {
+    let steps = [
+        Read(4, Some(b"")),
+        Begin(name, Ok(true)),
+        Read(4, Some(b"abcd")),
+        Read(8, Some(b"efg")),
+        Read(4, Some(b"")),
+        Begin(name, Ok(true)),
+        Replace(name, b"new", Ok(())),
+        Read(4, Some(b"")),
+        Begin(name, Ok(true)),
+        Read(8, Some(b"new")),
+    ];
+    follow(rt, alloc, "a real file", store, &steps);
+}
+
 #[test]
-fn disk_store_reads_real_files(rt: HostRuntime) -> Result<(), Fail> {
+fn disk_store_reads_and_replaces_real_files(rt: HostRuntime) -> Result<(), Fail> {
     let alloc = rt.alloc();
     let folder = env::temp_dir(&rt)?;
     let folder = folder
@@ -239,20 +323,22 @@ fn disk_store_reads_real_files(rt: HostRuntime) -> Result<(), Fail> {
     let missing = format!(in alloc; "{name}.missing")?;
     let below = format!(in alloc; "{name}/below")?;
     fs::write(&rt, name.as_str(), b"abcdefg")?;
-    let steps = [
-        Read(4, Some(b"")),
-        Begin(&name, Ok(true)),
-        Read(4, Some(b"abcd")),
-        Read(8, Some(b"efg")),
-        Read(4, Some(b"")),
-        Begin(&missing, Ok(false)),
-        Read(4, Some(b"")),
+    let mut store = DiskStore::new(rt);
+    follow_real_file(&rt, alloc, &mut store, &name);
+    let of_missing = [Begin(&missing, Ok(false)), Read(4, Some(b""))];
+    follow(&rt, alloc, "a missing file", &mut store, &of_missing);
+    let below_file = [
         Begin(&below, FAILED),
+        Replace(&below, b"new", Err(PortError::Failed)),
+    ];
+    follow(&rt, alloc, "a path through a file", &mut store, &below_file);
+    let of_folder = [
         Begin(folder, Ok(true)),
         Read(4, None),
         Read(4, Some(b"")),
+        Replace(folder, b"new", Err(PortError::Failed)),
     ];
-    follow(&rt, alloc, &mut DiskStore::new(rt), &steps);
+    follow(&rt, alloc, "a folder", &mut store, &of_folder);
     fs::remove_file(&rt, name.as_str())?;
     Ok(())
 }
@@ -278,16 +364,11 @@ impl Print for Full {
 #[test]
 fn out_sink_prints(rt: HostRuntime) -> Result<(), Fail> {
     let alloc = rt.alloc();
-    let mut sink = OutSink::new(rt);
-    put_all(
-        &rt,
-        alloc,
-        &mut sink,
-        &[(b"a line\n", Ok(())), (b"", Ok(()))],
-    );
-    let mut full = OutSink::new(Full);
+    let puts: [Put; 2] = [(b"a line\n", Ok(())), (b"", Ok(()))];
+    put_all(&rt, alloc, "real output", &mut OutSink::new(rt), &puts);
     let failed = Err(PortError::Failed);
-    put_all(&rt, alloc, &mut full, &[(b"a", failed), (b"", failed)]);
+    let puts: [Put; 2] = [(b"a", failed), (b"", failed)];
+    put_all(&rt, alloc, "full output", &mut OutSink::new(Full), &puts);
     Ok(())
 }
 

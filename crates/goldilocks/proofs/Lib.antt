@@ -8,3 +8,5 @@ pub mod Texts
 pub mod Order
 pub mod Polynomials
 pub mod Worked
+pub mod Pairs
+pub mod Generators

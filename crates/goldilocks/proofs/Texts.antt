@@ -14,7 +14,8 @@ use Rattle.goldilocks.specs.declared.Felt.{Felt}
 use Rattle.goldilocks.specs.declared.text.TextFault.{TextFault}
 use Rattle.goldilocks.specs.declared.text.TextFault.TheVariants.{Empty, BadDigit, TooLarge}
 use Rattle.goldilocks.specs.Field.{prime}
-use Rattle.goldilocks.specs.Text.{is_marked, mark_len, base_of, IsNumberText, number_of, Writes, HasNoDigits, IsFirstOther, IsFirstBadDigit, IsTooLarge, IsAnswer}
+use Rattle.goldilocks.specs.Text.{is_marked, mark_len, base_of, IsNumberText, text_number, Writes, HasNoDigits, IsFirstOther, IsFirstBadDigit, IsTooLarge}
+use Rattle.goldilocks.specs.Reading.{IsAnswer}
 
 not_marked : (bs : List ℕ) → AllDigits 10 bs → is_marked bs ≡ false
 not_marked bs all =
@@ -28,7 +29,7 @@ not_marked bs all =
     ]
 
 pub Writes-decimal : (n : ℕ) → n < prime → Writes (decimal n) n
-unfolding Writes IsNumberText number_of
+unfolding Writes IsNumberText text_number
 Writes-decimal n low =
     let d = decimal_is_IsNumeral n (omega arith) in
     let m : is_marked (decimal n) ≡ false = not_marked (decimal n) d.0.1 in
@@ -39,7 +40,7 @@ Writes-decimal n low =
     subst P (sym m) (d.0, d.1, low)
 
 pub Writes-hex : (n : ℕ) → n < prime → Writes (codes "0x" ++ digits 16 false n) n
-unfolding Writes IsNumberText number_of
+unfolding Writes IsNumberText text_number
 Writes-hex n low =
     let h = digits_is_IsNumeral 16 false (omega arith) (omega arith) n (omega arith) in
     (h.0, h.1, low)
@@ -119,12 +120,12 @@ module _ (text : List ℕ) (start base : ℕ) where
 
 module _ (text : List ℕ) where
   pub reads_of : (r : Result Felt TextFault) → IsAnswer text (mark_len text) (base_of text) r → IfOk r (λ value. Writes text value.number)
-  unfolding Writes IsNumberText number_of
+  unfolding Writes IsNumberText text_number
   reads_of (Ok v) h = (h.0, h.1, v.in_field)
   reads_of (Err e) h = tt
 
-  pub accepted_of : (r : Result Felt TextFault) → IsAnswer text (mark_len text) (base_of text) r → IsOk r ↔ (IsNumberText text × (number_of text < prime))
-  unfolding IsNumberText number_of
+  pub accepted_of : (r : Result Felt TextFault) → IsAnswer text (mark_len text) (base_of text) r → IsOk r ↔ (IsNumberText text × (text_number text < prime))
+  unfolding IsNumberText text_number
   accepted_of (Ok v) h = (λ e. (h.0, let l = v.in_field in omega (arith, h.1)), λ e. refl)
   accepted_of (Err Empty) h = (λ e. absurd (false≢true e), λ n. absurd (none_or_numeral text (mark_len text) (base_of text) h n.0))
   accepted_of (Err (BadDigit i)) h = (λ e. absurd (false≢true e), λ n. absurd (other_or_numeral text (mark_len text) (base_of text) i h n.0))
@@ -148,7 +149,7 @@ module _ (text : List ℕ) where
   bad_digit_of (Err TooLarge) h i = (λ e. absurd (cc), λ o. absurd (other_or_numeral text (mark_len text) (base_of text) i o h.0))
 
   pub too_large_of : (r : Result Felt TextFault) → IsAnswer text (mark_len text) (base_of text) r → (r ≡ Err TooLarge) ↔ IsTooLarge text
-  unfolding IsTooLarge IsNumberText number_of
+  unfolding IsTooLarge IsNumberText text_number
   too_large_of (Ok v) h = (λ e. absurd (cc), λ t. absurd (let l = v.in_field in let a = t.1 in omega (arith, h.1)))
   too_large_of (Err Empty) h = (λ e. absurd (cc), λ t. absurd (none_or_numeral text (mark_len text) (base_of text) h t.0))
   too_large_of (Err (BadDigit i)) h = (λ e. absurd (cc), λ t. absurd (other_or_numeral text (mark_len text) (base_of text) i h t.0))

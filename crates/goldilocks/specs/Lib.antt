@@ -1,2 +1,4 @@
 pub mod Field
 pub mod Text
+pub mod Reading
+pub mod Pairs

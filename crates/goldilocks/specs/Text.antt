@@ -1,11 +1,8 @@
 -- How a number of the field is written: decimal digits, or `0x` and hexadecimal digits of either case, with
 -- any number of leading zeros.
-use Rattle.std.specs.Prelude.{◌≡◌, ℕ, ◌<◌, ◌≤◌, Bool, ◌&&◌, ◌==◌, cond, List, length, drop, slice_index, Result, Ok, Err}
+use Rattle.std.specs.Prelude.{◌≡◌, ℕ, ◌<◌, ◌≤◌, Bool, ◌&&◌, ◌==◌, cond, List, length, drop, slice_index}
 use Rattle.std.specs.Char.{digit_value}
 use Rattle.std.specs.Str.Parse.{IsNumeral, digits_value}
-use Rattle.goldilocks.specs.declared.Felt.{Felt}
-use Rattle.goldilocks.specs.declared.text.TextFault.{TextFault}
-use Rattle.goldilocks.specs.declared.text.TextFault.TheVariants.{Empty, BadDigit, TooLarge}
 use Rattle.goldilocks.specs.Field.{prime}
 
 -- Whether the text begins with `0x`. Own.
@@ -37,12 +34,12 @@ unfoldable pub IsNumberText : List ℕ → Type 0
 IsNumberText text = IsNumeral (base_of text) (digit_bytes text)
 
 -- The number that the digits write. Own.
-unfoldable pub number_of : List ℕ → ℕ
-number_of text = digits_value (base_of text) (digit_bytes text)
+unfoldable pub text_number : List ℕ → ℕ
+text_number text = digits_value (base_of text) (digit_bytes text)
 
 -- The text writes this number of the field. Own.
 unfoldable pub Writes : List ℕ → ℕ → Type 0
-Writes text n = IsNumberText text × (number_of text ≡ n) × (n < prime)
+Writes text n = IsNumberText text × (text_number text ≡ n) × (n < prime)
 
 -- The text has no digits: it is empty, or `0x` alone. Own.
 unfoldable pub HasNoDigits : List ℕ → Type 0
@@ -54,12 +51,4 @@ IsFirstBadDigit text i = IsFirstOther text (mark_len text) (base_of text) i
 
 -- The text is a number of p or more. Own.
 unfoldable pub IsTooLarge : List ℕ → Type 0
-IsTooLarge text = IsNumberText text × (prime ≤ number_of text)
-
--- What reading the digits from a place on, in a base, may answer: the number, or the fault that there is. Only a
--- part of the reading speaks of it. Own.
-abbrev pub IsAnswer : List ℕ → ℕ → ℕ → Result Felt TextFault → Type 0
-IsAnswer text start base (Ok value) = IsNumeral base (drop start text) × (digits_value base (drop start text) ≡ value.number)
-IsAnswer text start base (Err Empty) = length text ≤ start
-IsAnswer text start base (Err (BadDigit i)) = IsFirstOther text start base i
-IsAnswer text start base (Err TooLarge) = IsNumeral base (drop start text) × (prime ≤ digits_value base (drop start text))
+IsTooLarge text = IsNumberText text × (prime ≤ text_number text)

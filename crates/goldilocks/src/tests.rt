@@ -218,7 +218,7 @@ fn pairs_are_ordered_by_address_and_then_value(rt: HostRuntime) {
             value: Felt::new(value)?,
         })
     };
-    assert!(rt; pair(1, 9) < pair(2, 0));
-    assert!(rt; pair(1, 2) < pair(1, 9));
-    assert!(rt; pair(1, 9) == pair(1, 9));
+    assert!(rt; pair(1, 9) < pair(2, 0), "by address");
+    assert!(rt; pair(1, 2) < pair(1, 9), "by value at one address");
+    assert!(rt; pair(1, 9) == pair(1, 9), "the same");
 }

@@ -2,7 +2,8 @@
 ghost use Rattle.std.specs.Prelude.{◌≡◌, ◌≤◌, ◌<◌, ◌↔◌, ◌++◌, ◌∷◌, ℕ, length, IfOk, IsOk, OnOk, OnErr, codes, false};
 ghost use Rattle.std.specs.Fmt.{decimal, digits};
 ghost use Rattle.goldilocks.specs.Field.{prime};
-ghost use Rattle.goldilocks.specs.Text.{IsNumberText, number_of, Writes, HasNoDigits, IsFirstBadDigit, IsTooLarge, IsAnswer, is_marked};
+ghost use Rattle.goldilocks.specs.Text.{IsNumberText, text_number, Writes, HasNoDigits, IsFirstBadDigit, IsTooLarge, is_marked};
+ghost use Rattle.goldilocks.specs.Reading.{IsAnswer};
 
 use crate::{Felt, PRIME};
 use std::alloc::{AllocError, Global};
@@ -23,7 +24,7 @@ impl Felt {
     /// Leading zeros are allowed, and nothing else is.
     pub fn read_text(text: &[u8]) -> Result<Felt, TextFault>
         ensures reads { IfOk result (λ value. Writes text.now value.number) }
-        ensures accepted { IsOk result ↔ (IsNumberText text.now × (number_of text.now < prime)) }
+        ensures accepted { IsOk result ↔ (IsNumberText text.now × (text_number text.now < prime)) }
         ensures empty { (result ≡ Err TextFault.Empty) ↔ HasNoDigits text.now }
         ensures bad_digit { (i : ℕ) → (result ≡ Err (TextFault.BadDigit i)) ↔ IsFirstBadDigit text.now i }
         ensures too_large { (result ≡ Err TextFault.TooLarge) ↔ IsTooLarge text.now }

@@ -1,21 +1,25 @@
-use Rattle.std.proofs.Common.{◌≡◌, Some, sym, ap, ◌∙◌, inr}
-use Rattle.std.proofs.lemmas.Option.{IfSome_then}
-use Rattle.cairo_commands.specs.Reply.{reply, reply_to, request_of, walk_answer, written}
-use Rattle.cairo_commands.proofs.Legal.{WalksLegally-from_done, done-from_WalksLegally}
-use Rattle.cairo_commands.proofs.PerformLaws.{reply_status, IfSome-known, reply_writes}
+use Rattle.cairo_commands.specs.Reply.{request_of}
+use Rattle.cairo_commands.proofs.Evidence.{IfSome-held}
+use Rattle.cairo_commands.proofs.Evidence.{Evidence-of_call, Leaves-of_call, Replied-of_call}
+use Rattle.cairo_commands.proofs.Means.{Means-from_reply}
 use Rattle.cairo_commands.proofs.perform.Goals as goal
 
-pub returns-clause-legal : goal.returns-clause-legal
-returns-clause-legal g c =
-    IfSome_then (g.S.Store.files c.args.store.now) c.plan-ending.ensures.told (λ files ends trace memory asked decided.
-    let same : c.print.result ≡ (walk_answer trace memory files).status =
-    reply_status c.print.result c.plan-ending.result (reply c.args.words.now files) _ _ c.print.ensures.prints ends decided
-    ∙ ap (λ request. (reply_to request files).status) asked in (
-      (λ done. WalksLegally-from_done trace memory files (sym same ∙ done)),
-      (λ legal. same ∙ done-from_WalksLegally trace memory files legal),
-    ))
+pub returns-clause-means : goal.returns-clause-means
+returns-clause-means g c =
+    let before = g.S.Store.seen c.args.store.now in
+    let after = g.S.Store.seen c.carry_out-ending.new.store in
+    let sink_before = g.K.Sink.seen c.args.sink.now in
+    let sink_after = g.K.Sink.seen c.print.new.sink in
+    let request = request_of c.args.words.now in
+    IfSome-held before.files _ (λ files held decided.
+    Means-from_reply files c.print.result after sink_before sink_after request
+    (Replied-of_call before after sink_before sink_after c.print.result c.carry_out-ending.result c.print.ensures.prints c.print.ensures.sink_faults request files c.carry_out-ending.ensures.carries held decided))
 
-pub returns-clause-sink_files : goal.returns-clause-sink_files
-returns-clause-sink_files g c =
-    IfSome-known (g.S.Store.files c.args.store.now) _ (λ files held is_sink.
-    inr (c.plan-ending.ensures.files ∙ (held ∙ ap (λ writes. Some (written writes files)) (sym (reply_writes (request_of c.args.words.now) files)))))
+pub returns-clause-evidence : goal.returns-clause-evidence
+returns-clause-evidence g c =
+    Evidence-of_call (g.S.Store.seen c.args.store.now) (g.S.Store.seen c.carry_out-ending.new.store) (g.K.Sink.seen c.args.sink.now) (g.K.Sink.seen c.print.new.sink) c.print.result c.carry_out-ending.result c.print.ensures.prints c.print.ensures.sink_faults (request_of c.args.words.now) c.carry_out-ending.ensures.carries
+
+pub returns-clause-leaves : goal.returns-clause-leaves
+returns-clause-leaves g c =
+    IfSome-held (g.S.Store.seen c.args.store.now).files _ (λ files held.
+    Leaves-of_call (g.S.Store.seen c.args.store.now) (g.S.Store.seen c.carry_out-ending.new.store) (g.K.Sink.seen c.args.sink.now) (g.K.Sink.seen c.print.new.sink) c.print.result c.carry_out-ending.result c.print.ensures.prints c.print.ensures.sink_faults (λ none. (c.print.ensures.silent none).0) (request_of c.args.words.now) files c.carry_out-ending.ensures.carries held)

@@ -1,6 +1,7 @@
 //! Steps that are legal, and a step that is refused for each cause.
 
-use super::{MEMORY, TRACE, Walked};
+use super::walk::Walked;
+use super::{MEMORY, TRACE};
 use crate::Status::{Done, Refused};
 
 /// The states are those of one step from (pc, ap, fp) = (1, 7, 5), where nothing else is said.

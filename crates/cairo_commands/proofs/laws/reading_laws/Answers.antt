@@ -1,5 +1,5 @@
-use Rattle.cairo_commands.proofs.TraceReading.{trace_of-spelled, SpellsTrace-from_trace_of, trace_is_unique}
-use Rattle.cairo_commands.proofs.MemoryReading.{cells_of-spelled, SpellsMemory-from_cells_of, memory_is_unique}
+use Rattle.cairo_commands.proofs.TraceFile.{trace_of-spelled, SpellsTrace-from_trace_of, trace_is_unique}
+use Rattle.cairo_commands.proofs.MemoryFile.{cells_of-spelled, SpellsMemory-from_cells_of, memory_is_unique}
 use Rattle.cairo_commands.proofs.laws.reading_laws.Goals as goal
 
 pub returns-clause-trace : goal.returns-clause-trace

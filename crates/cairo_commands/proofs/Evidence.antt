@@ -1,0 +1,297 @@
+-- What the parts of a call say together: the evidence of its status, its reply, and what it leaves.
+use Rattle.std.proofs.Common.{◌≡◌, ◌≢◌, ℕ, ◌+◌, ◌≤◌, List, [], ◌∷◌, Option, Some, None, Result, Ok, Err, IfSome, IfErr, refl, sym, ap, ◌∙◌, inl, inr, ◌⊎◌, subst, String, Global, arith}
+use Rattle.std.specs.Io.KnownBytes.{Appends, Keeps}
+use Rattle.file_port.specs.Files.{Name, Files}
+use Rattle.file_port.specs.Counts.{Counts}
+use Rattle.file_port.specs.Ports.{AppendsPrefix}
+use Rattle.file_port.specs.Seen.{Seen, SinkSeen}
+use Rattle.cairo_commands.specs.declared.status.Status.{Status}
+use Rattle.cairo_commands.specs.declared.status.Status.TheVariants as status_of
+use Rattle.cairo_commands.specs.declared.ending.Refusal.{Refusal}
+use Rattle.cairo_commands.specs.declared.ending.Refusal.TheVariants.{Refused, Usage, Unspelled, OverLimit, Missing, StoreFault, OutOfMemory}
+use Rattle.cairo_commands.specs.Answer.{Answer, Input, Task, missing, over_limit, unspelled, store_fault_line, usage as usage_answer}
+use Rattle.cairo_commands.specs.Request.{Request}
+use Rattle.cairo_commands.specs.Reply.{task, reply_to, inputs_of, outputs_of}
+use Rattle.cairo_commands.specs.Status.{IsDecided}
+use Rattle.cairo_commands.specs.Perform.{piece, OneOf, OneName, GaveMore, Evidence, Leaves, Replied, TellsFault}
+use Rattle.cairo_commands.specs.Parts.{ending_answer, IsStoreFault, IsMissing, BlamesFile, CarriesOut, Carries, Prints}
+
+-- ---- one of several
+
+pub OneOf-map : (P Q : Input → ℕ → Type 0) → ((input : Input) (most : ℕ) → P input most → Q input most) → (inputs : List Input) (earlier : ℕ) → OneOf P earlier inputs → OneOf Q earlier inputs
+OneOf-map P Q to [] earlier one = one
+OneOf-map P Q to (input ∷ later) earlier (inl here) = inl (to input (earlier + (input.limit + piece)) here)
+OneOf-map P Q to (input ∷ later) earlier (inr there) = inr (OneOf-map P Q to later (earlier + (input.limit + piece)) there)
+
+pub OneName-map : (P Q : Name → Type 0) → ((name : Name) → P name → Q name) → (names : List Name) → OneName P names → OneName Q names
+OneName-map P Q to [] one = one
+OneName-map P Q to (name ∷ more) (inl here) = inl (to name here)
+OneName-map P Q to (name ∷ more) (inr there) = inr (OneName-map P Q to more there)
+
+-- ---- the status of an ending
+
+abbrev Ending : Type 0
+Ending = Result (String Global) Refusal
+
+stored : (ending : Ending) → (ending_answer ending).status ≡ status_of.Store → IsStoreFault ending
+stored (Ok line) is = cc
+stored (Err (Refused line)) is = cc
+stored (Err Usage) is = cc
+stored (Err (Unspelled position)) is = cc
+stored (Err (OverLimit position)) is = cc
+stored (Err (Missing position)) is = cc
+stored (Err (StoreFault name)) is = tt
+stored (Err OutOfMemory) is = cc
+
+decided : (ending : Ending) → IsDecided (ending_answer ending).status → IsStoreFault ending → ⊥
+decided (Ok line) is fault = fault
+decided (Err (Refused line)) is fault = fault
+decided (Err Usage) is fault = fault
+decided (Err (Unspelled position)) is fault = fault
+decided (Err (OverLimit position)) is fault = fault
+decided (Err (Missing position)) is fault = fault
+decided (Err (StoreFault name)) is fault = is
+decided (Err OutOfMemory) is fault = fault
+
+missed : (ending : Ending) → (ending_answer ending).status ≡ status_of.Missing → IsMissing ending
+missed (Ok line) is = cc
+missed (Err (Refused line)) is = cc
+missed (Err Usage) is = cc
+missed (Err (Unspelled position)) is = cc
+missed (Err (OverLimit position)) is = cc
+missed (Err (Missing position)) is = tt
+missed (Err (StoreFault name)) is = cc
+missed (Err OutOfMemory) is = cc
+
+is_missing : (ending : Ending) → IsMissing ending → (ending_answer ending).status ≡ status_of.Missing
+is_missing (Ok line) is = absurd is
+is_missing (Err (Refused line)) is = absurd is
+is_missing (Err Usage) is = absurd is
+is_missing (Err (Unspelled position)) is = absurd is
+is_missing (Err (OverLimit position)) is = absurd is
+is_missing (Err (Missing position)) is = refl
+is_missing (Err (StoreFault name)) is = absurd is
+is_missing (Err OutOfMemory) is = absurd is
+
+settled : (ending : Ending) → (ending_answer ending).status ≢ status_of.Memory → IsDecided (ending_answer ending).status ⊎ ((ending_answer ending).status ≡ status_of.Store)
+settled (Ok line) never = inl tt
+settled (Err (Refused line)) never = inl tt
+settled (Err Usage) never = inl tt
+settled (Err (Unspelled position)) never = inl tt
+settled (Err (OverLimit position)) never = inl tt
+settled (Err (Missing position)) never = inl tt
+settled (Err (StoreFault name)) never = inr refl
+settled (Err OutOfMemory) never = absurd (never refl)
+
+-- what holds of a value with the equation that says so
+pub IfSome-held : {X : Type 0} (o : Option X) (P : X → Type 0) → ((x : X) → o ≡ Some x → P x) → IfSome o P
+IfSome-held None P known = tt
+IfSome-held (Some x) P known = known x refl
+
+-- what holds of a value that is there
+IfSome-at : {X : Type 0} (o : Option X) (P : X → Type 0) (x : X) → o ≡ Some x → IfSome o P → P x
+IfSome-at o P x is holds = subst (λ known. IfSome known P) is holds
+
+-- a status that was printed is the one that was planned, with its line
+printed : (status : Status) (answer : Answer) (before now : Option (List ℕ)) → Prints status answer before now → status ≢ status_of.Sink → status ≢ status_of.Memory → (status ≡ answer.status) × Appends before now answer.line
+printed status_of.Done answer before now prints a b = prints
+printed status_of.Refused answer before now prints a b = prints
+printed status_of.Words answer before now prints a b = prints
+printed status_of.Input answer before now prints a b = prints
+printed status_of.Store answer before now prints a b = prints
+printed status_of.Sink answer before now prints a b = absurd (a refl)
+printed status_of.Memory answer before now prints a b = absurd (b refl)
+printed status_of.Limit answer before now prints a b = prints
+printed status_of.Missing answer before now prints a b = prints
+
+pub printed_decided : (status : Status) (answer : Answer) (before now : Option (List ℕ)) → Prints status answer before now → IsDecided status → (status ≡ answer.status) × Appends before now answer.line
+printed_decided status_of.Done answer before now prints is = prints
+printed_decided status_of.Refused answer before now prints is = prints
+printed_decided status_of.Words answer before now prints is = prints
+printed_decided status_of.Input answer before now prints is = prints
+printed_decided status_of.Store answer before now prints is = absurd is
+printed_decided status_of.Sink answer before now prints is = absurd is
+printed_decided status_of.Memory answer before now prints is = absurd is
+printed_decided status_of.Limit answer before now prints is = prints
+printed_decided status_of.Missing answer before now prints is = prints
+
+printed_sink : (status : Status) (answer : Answer) (before now : Option (List ℕ)) → Prints status answer before now → status ≡ status_of.Sink → AppendsPrefix before now answer.line
+printed_sink status answer before now prints is = subst (λ s. Prints s answer before now) is prints
+
+printed_memory : (status : Status) (answer : Answer) (before now : Option (List ℕ)) → Prints status answer before now → status ≡ status_of.Memory → Keeps before now
+printed_memory status answer before now prints is = subst (λ s. Prints s answer before now) is prints
+
+-- ---- what a refusal blames, told by the line
+
+module _ (Tells : List ℕ → Type 0) (inputs : List Input) (outputs : List Name) (before after : Seen) where
+  tells_fault : (ending : Ending) → IfErr ending (BlamesFile inputs outputs before after) → (ending_answer ending).status ≡ status_of.Store → Tells (ending_answer ending).line → TellsFault Tells inputs outputs before after
+  tells_fault (Ok line) blames is tells = cc
+  tells_fault (Err (Refused line)) blames is tells = cc
+  tells_fault (Err Usage) blames is tells = cc
+  tells_fault (Err (Unspelled position)) blames is tells = cc
+  tells_fault (Err (OverLimit position)) blames is tells = cc
+  tells_fault (Err (Missing position)) blames is tells = cc
+  tells_fault (Err OutOfMemory) blames is tells = cc
+  tells_fault (Err (StoreFault name)) (inl input) is tells =
+      inl (OneOf-map (λ input most. name.now ≡ input.name) _ (λ input most same. subst (λ n. Tells (store_fault_line n)) same tells) inputs 0 input)
+  tells_fault (Err (StoreFault name)) (inr output) is tells =
+      inr (output.0, OneName-map (λ output. name.now ≡ output) _ (λ output same. subst (λ n. Tells (store_fault_line n)) same tells) outputs output.1)
+
+  tells_missing : (ending : Ending) → IfErr ending (BlamesFile inputs outputs before after) → (ending_answer ending).status ≡ status_of.Missing → Tells (ending_answer ending).line → OneOf (λ input most. Tells (missing input.position).line) 0 inputs
+  tells_missing (Ok line) blames is tells = cc
+  tells_missing (Err (Refused line)) blames is tells = cc
+  tells_missing (Err Usage) blames is tells = cc
+  tells_missing (Err (Unspelled position)) blames is tells = cc
+  tells_missing (Err (OverLimit position)) blames is tells = cc
+  tells_missing (Err (StoreFault name)) blames is tells = cc
+  tells_missing (Err OutOfMemory) blames is tells = cc
+  tells_missing (Err (Missing position)) blames is tells =
+      OneOf-map (λ input most. position ≡ input.position) _ (λ input most same. subst (λ n. Tells (missing n).line) same tells) inputs 0 blames
+
+  tells_unspelled : (ending : Ending) → IfErr ending (BlamesFile inputs outputs before after) → (ending_answer ending).status ≡ status_of.Input → Tells (ending_answer ending).line → OneOf (λ input most. Tells (unspelled input.position).line) 0 inputs
+  tells_unspelled (Ok line) blames is tells = cc
+  tells_unspelled (Err (Refused line)) blames is tells = cc
+  tells_unspelled (Err Usage) blames is tells = cc
+  tells_unspelled (Err (Missing position)) blames is tells = cc
+  tells_unspelled (Err (OverLimit position)) blames is tells = cc
+  tells_unspelled (Err (StoreFault name)) blames is tells = cc
+  tells_unspelled (Err OutOfMemory) blames is tells = cc
+  tells_unspelled (Err (Unspelled position)) blames is tells =
+      OneOf-map (λ input most. position ≡ input.position) _ (λ input most same. subst (λ n. Tells (unspelled n).line) same tells) inputs 0 blames
+
+  tells_limit : (ending : Ending) → IfErr ending (BlamesFile inputs outputs before after) → (ending_answer ending).status ≡ status_of.Limit → Tells (ending_answer ending).line → OneOf (λ input most. GaveMore input.limit before.given after.given × (after.given ≤ before.given + most) × Tells (over_limit input.position).line) 0 inputs
+  tells_limit (Ok line) blames is tells = cc
+  tells_limit (Err (Refused line)) blames is tells = cc
+  tells_limit (Err Usage) blames is tells = cc
+  tells_limit (Err (Unspelled position)) blames is tells = cc
+  tells_limit (Err (Missing position)) blames is tells = cc
+  tells_limit (Err (StoreFault name)) blames is tells = cc
+  tells_limit (Err OutOfMemory) blames is tells = cc
+  tells_limit (Err (OverLimit position)) blames is tells =
+      OneOf-map (λ input most. (position ≡ input.position) × GaveMore input.limit before.given after.given × (after.given ≤ before.given + most))
+      (λ input most. GaveMore input.limit before.given after.given × (after.given ≤ before.given + most) × Tells (over_limit input.position).line)
+      (λ input most here. (here.1, here.2, subst (λ n. Tells (over_limit n).line) here.0 tells)) inputs 0 blames
+
+-- ---- the evidence
+
+module _ (before after : Seen) (sink_before sink_after : SinkSeen) (status : Status) (ending : Ending) (prints : Prints status (ending_answer ending) sink_before.written sink_after.written) (counts : Counts sink_before.faults sink_after.faults (status ≡ status_of.Sink)) where
+  of_status : status ≢ status_of.Sink → status ≢ status_of.Memory → (status ≡ (ending_answer ending).status) × Appends sink_before.written sink_after.written (ending_answer ending).line
+  of_status = printed status (ending_answer ending) sink_before.written sink_after.written prints
+
+  of_store : status ≡ status_of.Store → (status ≡ (ending_answer ending).status) × Appends sink_before.written sink_after.written (ending_answer ending).line
+  of_store is = of_status (λ e. cc) (λ e. cc)
+
+  of_missing : status ≡ status_of.Missing → (status ≡ (ending_answer ending).status) × Appends sink_before.written sink_after.written (ending_answer ending).line
+  of_missing is = of_status (λ e. cc) (λ e. cc)
+
+  of_input : status ≡ status_of.Input → (status ≡ (ending_answer ending).status) × Appends sink_before.written sink_after.written (ending_answer ending).line
+  of_input is = of_status (λ e. cc) (λ e. cc)
+
+  of_limit : status ≡ status_of.Limit → (status ≡ (ending_answer ending).status) × Appends sink_before.written sink_after.written (ending_answer ending).line
+  of_limit is = of_status (λ e. cc) (λ e. cc)
+
+  decided_ending : IsDecided status → IsDecided (ending_answer ending).status
+  decided_ending is = subst IsDecided (printed_decided status (ending_answer ending) sink_before.written sink_after.written prints is).0 is
+
+  Evidence-of_task : (task : Task) → CarriesOut task before after ending → Evidence task.inputs task.outputs before after sink_before sink_after status
+  Evidence-of_task task carries = record {
+    store_fault = λ is. carries.faults.rose (stored ending (sym (of_store is).0 ∙ is));
+    no_store_fault = λ is. carries.faults.kept (decided ending (decided_ending is));
+    no_torn_file = λ is. carries.torn (decided ending (decided_ending is));
+    store_line = λ is. tells_fault (Appends sink_before.written sink_after.written) task.inputs task.outputs before after ending carries.blames (sym (of_store is).0 ∙ is) (of_store is).1;
+    sink_faults = counts;
+    missing_name = λ is. carries.absent.rose (missed ending (sym (of_missing is).0 ∙ is));
+    none_missing = λ is other. carries.absent.kept (λ gone. other ((printed_decided status (ending_answer ending) sink_before.written sink_after.written prints is).0 ∙ is_missing ending gone));
+    missing_line = λ is. tells_missing (Appends sink_before.written sink_after.written) task.inputs task.outputs before after ending carries.blames (sym (of_missing is).0 ∙ is) (of_missing is).1;
+    none_missing_at_fault = λ is. carries.absent.kept (λ gone. let both : status_of.Store ≡ status_of.Missing = sym is ∙ ((of_store is).0 ∙ is_missing ending gone) in cc);
+    input_line = λ is. tells_unspelled (Appends sink_before.written sink_after.written) task.inputs task.outputs before after ending carries.blames (sym (of_input is).0 ∙ is) (of_input is).1;
+    limit = λ is. tells_limit (Appends sink_before.written sink_after.written) task.inputs task.outputs before after ending carries.blames (sym (of_limit is).0 ∙ is) (of_limit is).1;
+    bounded = carries.bounded;
+    memory_line = printed_memory status (ending_answer ending) sink_before.written sink_after.written prints;
+  }
+
+  Replied-of_task : (task : Task) (files : Files) → CarriesOut task before after ending → before.files ≡ Some files → IsDecided status → Replied (task.answer files) files status after sink_before sink_after
+  Replied-of_task task files carries held is =
+      let planned = printed_decided status (ending_answer ending) sink_before.written sink_after.written prints is in
+      let ends = IfSome-at before.files _ files held carries.told (decided_ending is) in
+      record {
+        answers = planned.0 ∙ ends.answers;
+        writes = ends.writes;
+        prints = subst (Appends sink_before.written sink_after.written) ends.prints planned.1;
+      }
+
+  module _ (silent : (ending_answer ending).status ≡ status_of.Memory → status ≡ status_of.Memory) where
+    fault_or_decided : status ≡ status_of.Sink → IsDecided (ending_answer ending).status ⊎ ((ending_answer ending).status ≡ status_of.Store)
+    fault_or_decided is = settled ending (λ none. let both : status_of.Sink ≡ status_of.Memory = sym is ∙ silent none in cc)
+
+    Leaves-of_task : (task : Task) (files : Files) → CarriesOut task before after ending → before.files ≡ Some files → Leaves (task.answer files) files task.inputs task.outputs before after sink_before sink_after status
+    Leaves-of_task task files carries held =
+        let ends = IfSome-at before.files _ files held carries.told in
+        record {
+          partly = IfSome-at before.files _ files held carries.left;
+          sink_files = λ is. elim (fault_or_decided is) [
+            | inl sure ↦ inr (ends sure).writes
+            | inr fault ↦ inl (carries.faults.rose (stored ending fault))
+          ];
+          sink_line = λ is. let prefix = printed_sink status (ending_answer ending) sink_before.written sink_after.written prints is in
+              elim (fault_or_decided is) [
+                | inl sure ↦ inl (subst (AppendsPrefix sink_before.written sink_after.written) (ends sure).prints prefix)
+                | inr fault ↦ inr (carries.faults.rose (stored ending fault), tells_fault (AppendsPrefix sink_before.written sink_after.written) task.inputs task.outputs before after ending carries.blames fault prefix)
+              ];
+        }
+
+  -- words that are an unknown command
+  module _ (usage : ending ≡ Err Usage) (same : after ≡ before) where
+    unknown : (other : Status) → status ≡ other → other ≢ status_of.Sink → other ≢ status_of.Memory → other ≢ status_of.Words → ⊥
+    unknown other is a b c =
+        let words : status ≡ status_of.Words = (of_status (λ e. a (sym is ∙ e)) (λ e. b (sym is ∙ e))).0 ∙ ap (λ e. (ending_answer e).status) usage in
+        c (sym is ∙ words)
+
+    Evidence-of_usage : Evidence [] [] before after sink_before sink_after status
+    Evidence-of_usage = record {
+      store_fault = λ is. absurd (unknown status_of.Store is (λ e. cc) (λ e. cc) (λ e. cc));
+      no_store_fault = λ is. ap (λ (s : Seen). s.faults) same;
+      no_torn_file = λ is. ap (λ (s : Seen). s.torn) same;
+      store_line = λ is. absurd (unknown status_of.Store is (λ e. cc) (λ e. cc) (λ e. cc));
+      sink_faults = counts;
+      missing_name = λ is. absurd (unknown status_of.Missing is (λ e. cc) (λ e. cc) (λ e. cc));
+      none_missing = λ is other. ap (λ (s : Seen). s.absent) same;
+      missing_line = λ is. absurd (unknown status_of.Missing is (λ e. cc) (λ e. cc) (λ e. cc));
+      none_missing_at_fault = λ is. ap (λ (s : Seen). s.absent) same;
+      input_line = λ is. absurd (unknown status_of.Input is (λ e. cc) (λ e. cc) (λ e. cc));
+      limit = λ is. absurd (unknown status_of.Limit is (λ e. cc) (λ e. cc) (λ e. cc));
+      bounded = omega (arith, ap (λ (s : Seen). s.given) same);
+      memory_line = printed_memory status (ending_answer ending) sink_before.written sink_after.written prints;
+    }
+
+    Leaves-of_usage : (files : Files) → before.files ≡ Some files → Leaves usage_answer files [] [] before after sink_before sink_after status
+    Leaves-of_usage files held =
+        let kept : after.files ≡ Some files = ap (λ (s : Seen). s.files) same ∙ held in
+        record {
+          partly = inl kept;
+          sink_files = λ is. inr kept;
+          sink_line = λ is. inl (subst (λ e. AppendsPrefix sink_before.written sink_after.written (ending_answer e).line) usage (printed_sink status (ending_answer ending) sink_before.written sink_after.written prints is));
+        }
+
+    Replied-of_usage : (files : Files) → before.files ≡ Some files → IsDecided status → Replied usage_answer files status after sink_before sink_after
+    Replied-of_usage files held is =
+        let planned = printed_decided status (ending_answer ending) sink_before.written sink_after.written prints is in
+        record {
+          answers = planned.0 ∙ ap (λ e. (ending_answer e).status) usage;
+          writes = ap (λ (s : Seen). s.files) same ∙ held;
+          prints = subst (λ e. Appends sink_before.written sink_after.written (ending_answer e).line) usage planned.1;
+        }
+
+  -- ---- of a call
+
+  pub Evidence-of_call : (request : Option Request) → Carries request before after ending → Evidence (inputs_of request) (outputs_of request) before after sink_before sink_after status
+  Evidence-of_call None carries = Evidence-of_usage carries.0 carries.1
+  Evidence-of_call (Some request) carries = Evidence-of_task (task request) carries
+
+  pub Replied-of_call : (request : Option Request) (files : Files) → Carries request before after ending → before.files ≡ Some files → IsDecided status → Replied (reply_to request files) files status after sink_before sink_after
+  Replied-of_call None files carries = Replied-of_usage carries.0 carries.1 files
+  Replied-of_call (Some request) files carries = Replied-of_task (task request) files carries
+
+  pub Leaves-of_call : ((ending_answer ending).status ≡ status_of.Memory → status ≡ status_of.Memory) → (request : Option Request) (files : Files) → Carries request before after ending → before.files ≡ Some files → Leaves (reply_to request files) files (inputs_of request) (outputs_of request) before after sink_before sink_after status
+  Leaves-of_call silent None files carries = Leaves-of_usage carries.0 carries.1 files
+  Leaves-of_call silent (Some request) files carries = Leaves-of_task silent (task request) files carries

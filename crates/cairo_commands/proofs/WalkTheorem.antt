@@ -1,0 +1,249 @@
+-- What the endings of `walk` mean.
+use Rattle.std.proofs.Common.{◌≡◌, ◌≢◌, ℕ, zero, suc, ◌+◌, ◌-◌, Bool, true, false, cond, List, [], ◌∷◌, length, take, Option, Some, None, Ok, refl, sym, ap, ◌∙◌, arith, subst, inl, inr, ◌⊎◌, slice_get}
+use Rattle.std.specs.Io.KnownBytes.{Appends}
+use Rattle.std.proofs.lemmas.Bool.{and_parts, and_from, eqb-true, eq-eqb, both_ways}
+use Rattle.std.proofs.lemmas.List.Elements.{All-from_recursion, recursion_from_All}
+use Rattle.std.specs.List.{AllByRecursion}
+use Rattle.file_port.specs.Files.{Name, Files}
+use Rattle.file_port.specs.Seen.{Seen, SinkSeen}
+use Rattle.casm_word.specs.Transition.{Memory, Registers, Outcome, Next, NoCell, BadWord, CallPc, CallFp, NotEqual, outcome, next}
+use Rattle.casm_word.specs.Run.{steps}
+use Rattle.casm_word.proofs.Outcomes.{outcome-next}
+use Rattle.cairo_commands.specs.declared.status.Status.{Status}
+use Rattle.cairo_commands.specs.declared.status.Status.TheVariants.{Done, Refused}
+use Rattle.cairo_commands.specs.TraceFile.{trace_of}
+use Rattle.cairo_commands.specs.MemoryFile.{cells_of, memory_of}
+use Rattle.cairo_commands.specs.Answer.{Answer, says}
+use Rattle.cairo_commands.specs.Reading.{◌>>=◌, read_as}
+use Rattle.cairo_commands.specs.Perform.{Replied}
+use Rattle.cairo_commands.specs.Commands.Walk.{same_registers, is_next, refused_from, first_refused, walked, walk_answer, trace_input, memory_input, steps_line, refused_line, SpellsWalk, WalksLegally, WalkIsRefused, WalkMeans}
+use Rattle.cairo_commands.proofs.TraceFile.{trace_of-spelled, SpellsTrace-from_trace_of, length-spelled_trace}
+use Rattle.cairo_commands.proofs.MemoryFile.{cells_of-spelled, SpellsMemory-from_cells_of, length-spelled_memory}
+use Rattle.cairo_commands.proofs.Readings.{IsOwn, Done_is_own, Refused_is_own, IsRead, read_ended, then_read}
+
+-- ---- no step is refused exactly where each is the transition
+
+same_registers-true : (s t : Registers) → same_registers s t ≡ true → s ≡ t
+same_registers-true s t same =
+    let both = and_parts _ _ same in
+    let front = and_parts _ _ both.0 in
+    let pc = eqb-true s.pc t.pc front.0 in
+    let ap_same = eqb-true s.ap t.ap front.1 in
+    let fp = eqb-true s.fp t.fp both.1 in
+    λ i. record { pc = pc i; ap = ap_same i; fp = fp i }
+
+pub is_next-true : (o : Outcome) (t : Registers) → is_next o t ≡ true → o ≡ Next t
+is_next-true (Next s) t same = ap Next (same_registers-true s t same)
+is_next-true (NoCell _) t same = cc
+is_next-true (BadWord _) t same = cc
+is_next-true CallPc t same = cc
+is_next-true CallFp t same = cc
+is_next-true NotEqual t same = cc
+
+pub is_next-same : (o : Outcome) (t : Registers) → o ≡ Next t → is_next o t ≡ true
+is_next-same o t same =
+    ap (λ x. is_next x t) same
+    ∙ and_from _ _ (and_from _ _ (eq-eqb t.pc t.pc refl) (eq-eqb t.ap t.ap refl)) (eq-eqb t.fp t.fp refl)
+
+abbrev pub AreNext : Memory → List (Registers × Registers) → Type 0
+AreNext m pairs = AllByRecursion (λ step. next m step.0 ≡ Some step.1) pairs
+
+kept_none : (b : Bool) (rest : Option (ℕ × Outcome)) (refused : ℕ × Outcome) → cond b rest (Some refused) ≡ None → (b ≡ true) × (rest ≡ None)
+kept_none true rest refused none = (refl, none)
+kept_none false rest refused none = cc
+
+pub AreNext-from_none : (m : Memory) (i : ℕ) (pairs : List (Registers × Registers)) → refused_from m i pairs ≡ None → AreNext m pairs
+AreNext-from_none m i [] none = tt
+AreNext-from_none m i (step ∷ rest) none =
+    let parts = kept_none (is_next (outcome m step.0) step.1) (refused_from m (i + 1) rest) (i, outcome m step.0) none in
+    ((outcome-next m step.0 step.1).0 (is_next-true (outcome m step.0) step.1 parts.0), AreNext-from_none m (i + 1) rest parts.1)
+
+pub none-from_AreNext : (m : Memory) (i : ℕ) (pairs : List (Registers × Registers)) → AreNext m pairs → refused_from m i pairs ≡ None
+none-from_AreNext m i [] all = refl
+none-from_AreNext m i (step ∷ rest) all =
+    let here = is_next-same (outcome m step.0) step.1 ((outcome-next m step.0 step.1).1 all.0) in
+    rw here (none-from_AreNext m (i + 1) rest all.1)
+
+-- ---- the first step that isn't the transition
+
+abbrev pub IsStep : Memory → Registers × Registers → Type 0
+IsStep m step = next m step.0 ≡ Some step.1
+
+-- a step of some, with the steps before it
+pub record IsFirstRefused (m : Memory) (pairs : List (Registers × Registers)) (n : ℕ) (o : Outcome) : Type 0 where
+  pub pair : Registers × Registers
+  pub at : slice_get pairs n ≡ Some pair
+  pub before : AllByRecursion (IsStep m) (take n pairs)
+  pub refused : next m pair.0 ≢ Some pair.1
+  pub cause : o ≡ outcome m pair.0
+
+-- which way the test of one step went
+chosen : (b : Bool) (rest : Option (ℕ × Outcome)) (here there : ℕ × Outcome) → cond b rest (Some here) ≡ Some there → ((b ≡ true) × (rest ≡ Some there)) ⊎ ((b ≡ false) × (here ≡ there))
+chosen true rest here there e = inl (refl, e)
+chosen false rest here there e = inr (refl, cc)
+
+IsFirstRefused-from : (m : Memory) (i : ℕ) (pairs : List (Registers × Registers)) (k : ℕ) (o : Outcome) → refused_from m i pairs ≡ Some (k, o) → (n : ℕ) × (k ≡ i + n) × IsFirstRefused m pairs n o
+IsFirstRefused-from m i [] k o e = cc
+IsFirstRefused-from m i (step ∷ rest) k o e =
+    elim (chosen (is_next (outcome m step.0) step.1) (refused_from m (i + 1) rest) (i, outcome m step.0) (k, o) e) [
+      | inl later ↦
+          let behind = IsFirstRefused-from m (i + 1) rest k o later.1 in (
+            suc behind.0,
+            omega (arith, behind.1),
+            record {
+              pair = behind.2.pair;
+              at = behind.2.at;
+              before = ((outcome-next m step.0 step.1).0 (is_next-true (outcome m step.0) step.1 later.0), behind.2.before);
+              refused = behind.2.refused;
+              cause = behind.2.cause;
+            },
+          )
+      | inr now ↦
+          let place : i ≡ k = ap (λ (p : ℕ × Outcome). p.0) now.1 in (
+            zero,
+            omega arith,
+            record {
+              pair = step;
+              at = refl;
+              before = tt;
+              refused = λ goes. both_ways (is_next (outcome m step.0) step.1) now.0 (is_next-same (outcome m step.0) step.1 ((outcome-next m step.0 step.1).1 goes));
+              cause = sym (ap (λ (p : ℕ × Outcome). p.1) now.1);
+            },
+          )
+    ]
+
+not_next : (b : Bool) → (b ≡ true → ⊥) → b ≡ false
+not_next true never = absurd (never refl)
+not_next false never = refl
+
+refused_from-first : (m : Memory) (i : ℕ) (pairs : List (Registers × Registers)) (n : ℕ) (pair : Registers × Registers) → slice_get pairs n ≡ Some pair → AllByRecursion (IsStep m) (take n pairs) → next m pair.0 ≢ Some pair.1 → refused_from m i pairs ≡ Some (i + n, outcome m pair.0)
+refused_from-first m i [] n pair at before refused = cc
+refused_from-first m i (step ∷ rest) zero pair at before refused =
+    let same : step ≡ pair = cc in
+    let other : next m step.0 ≢ Some step.1 = subst (λ (p : Registers × Registers). next m p.0 ≢ Some p.1) (sym same) refused in
+    let fails = not_next (is_next (outcome m step.0) step.1) (λ goes. other ((outcome-next m step.0 step.1).0 (is_next-true (outcome m step.0) step.1 goes))) in
+    let place : i + zero ≡ i = omega arith in
+    rw (fails, place) (ap (λ (p : Registers × Registers). Some (i, outcome m p.0)) same)
+refused_from-first m i (step ∷ rest) (suc n) pair at before refused =
+    let here = is_next-same (outcome m step.0) step.1 ((outcome-next m step.0 step.1).1 before.0) in
+    let place : i + suc n ≡ i + 1 + n = omega arith in
+    rw (here, place) (refused_from-first m (i + 1) rest n pair at before.1 refused)
+
+-- ---- what `walk` answers
+
+walked_done : (states : List Registers) (refused : Option (ℕ × Outcome)) → (walked states refused).status ≡ Done → refused ≡ None
+walked_done states None done = refl
+walked_done states (Some refused) done = cc
+
+walked_refused : (states : List Registers) (refused : Option (ℕ × Outcome)) → (walked states refused).status ≡ Refused → (found : ℕ × Outcome) × (refused ≡ Some found)
+walked_refused states None ended = cc
+walked_refused states (Some found) ended = (found, refl)
+
+module _ (trace memory : Name) (files : Files) where
+  -- both files are read where an ending of its own is answered
+  reads_both : (status : Status) → IsOwn status → (walk_answer trace memory files).status ≡ status → (both : SpellsWalk trace memory files) × ((walked both.states (first_refused (memory_of both.cells) both.states)).status ≡ status)
+  unfolding walk_answer
+  reads_both status own ended =
+      let states = read_ended status own (trace_input trace) _ files trace_of ended in
+      let cells = read_ended status own (memory_input memory) _ files cells_of states.2 in (
+        record {
+          trace_bytes = states.1.bytes;
+          memory_bytes = cells.1.bytes;
+          trace_held = states.1.held;
+          memory_held = cells.1.held;
+          states = states.0;
+          cells = cells.0;
+          states_spelled = SpellsTrace-from_trace_of states.1.bytes states.0 states.1.spelled;
+          cells_spelled = SpellsMemory-from_cells_of cells.1.bytes cells.0 cells.1.spelled;
+        },
+        cells.2,
+      )
+
+  module _ (both : SpellsWalk trace memory files) where
+    states_read : IsRead trace_of (trace_input trace) files both.states
+    states_read = record {
+      bytes = both.trace_bytes;
+      held = both.trace_held;
+      short = omega (arith, length-spelled_trace both.trace_bytes both.states both.states_spelled, both.states_spelled.most);
+      spelled = trace_of-spelled both.trace_bytes both.states both.states_spelled;
+    }
+
+    cells_read : IsRead cells_of (memory_input memory) files both.cells
+    cells_read = record {
+      bytes = both.memory_bytes;
+      held = both.memory_held;
+      short = omega (arith, length-spelled_memory both.memory_bytes both.cells both.cells_spelled, both.cells_spelled.most);
+      spelled = cells_of-spelled both.memory_bytes both.cells both.cells_spelled;
+    }
+
+    -- what is answered where both files are read
+    walk_answer-read : walk_answer trace memory files ≡ walked both.states (first_refused (memory_of both.cells) both.states)
+    unfolding walk_answer
+    walk_answer-read =
+        then_read trace_of (trace_input trace) files both.states states_read (λ states. read_as cells_of (memory_input memory) files >>= λ cells. Ok (walked states (first_refused (memory_of cells) states)))
+        ∙ then_read cells_of (memory_input memory) files both.cells cells_read (λ cells. Ok (walked both.states (first_refused (memory_of cells) both.states)))
+
+  walk_answer-legal : (walk : WalksLegally trace memory files) → walk_answer trace memory files ≡ says Done (steps_line (length walk.spelled.states - 1))
+  unfolding first_refused
+  walk_answer-legal walk =
+      let all = recursion_from_All (IsStep (memory_of walk.spelled.cells)) (steps walk.spelled.states) walk.legal.each_next in
+      walk_answer-read walk.spelled
+      ∙ ap (walked walk.spelled.states) (none-from_AreNext (memory_of walk.spelled.cells) 0 (steps walk.spelled.states) all)
+
+  walk_answer-refused : (walk : WalkIsRefused trace memory files) → walk_answer trace memory files ≡ says Refused (refused_line walk.step walk.found)
+  unfolding first_refused
+  walk_answer-refused walk =
+      let m = memory_of walk.spelled.cells in
+      let all = recursion_from_All (IsStep m) (take walk.step (steps walk.spelled.states)) walk.legal_before in
+      let place : 0 + walk.step ≡ walk.step = omega arith in
+      let first : refused_from m 0 (steps walk.spelled.states) ≡ Some (walk.step, walk.found) =
+      refused_from-first m 0 (steps walk.spelled.states) walk.step (walk.from, walk.to) walk.at all walk.not_next
+      ∙ (ap (λ n. Some (n, outcome m walk.from)) place ∙ ap (λ o. Some (walk.step, o)) (sym walk.cause)) in
+      walk_answer-read walk.spelled ∙ ap (walked walk.spelled.states) first
+
+  WalksLegally-from_done : (walk_answer trace memory files).status ≡ Done → WalksLegally trace memory files
+  unfolding first_refused
+  WalksLegally-from_done done =
+      let both = reads_both Done Done_is_own done in
+      let none = walked_done both.0.states (first_refused (memory_of both.0.cells) both.0.states) both.1 in
+      record {
+        spelled = both.0;
+        legal = record {
+          has_step = both.0.states_spelled.least;
+          each_next = All-from_recursion (IsStep (memory_of both.0.cells)) (steps both.0.states) (AreNext-from_none (memory_of both.0.cells) 0 (steps both.0.states) none);
+        };
+      }
+
+  WalkIsRefused-from_refused : (walk_answer trace memory files).status ≡ Refused → WalkIsRefused trace memory files
+  unfolding first_refused
+  WalkIsRefused-from_refused ended =
+      let both = reads_both Refused Refused_is_own ended in
+      let m = memory_of both.0.cells in
+      let found = walked_refused both.0.states (first_refused m both.0.states) both.1 in
+      let first = IsFirstRefused-from m 0 (steps both.0.states) found.0.0 found.0.1 found.1 in
+      record {
+        spelled = both.0;
+        step = first.0;
+        from = first.2.pair.0;
+        to = first.2.pair.1;
+        found = found.0.1;
+        at = first.2.at;
+        legal_before = All-from_recursion (IsStep m) (take first.0 (steps both.0.states)) first.2.before;
+        not_next = first.2.refused;
+        cause = first.2.cause;
+      }
+
+  -- the reply means what is said of `walk`
+  pub WalkMeans-from_reply : (status : Status) (after : Seen) (sink_before sink_after : SinkSeen) → Replied (walk_answer trace memory files) files status after sink_before sink_after → WalkMeans trace memory files status sink_before.written sink_after.written
+  WalkMeans-from_reply status after sink_before sink_after replied = record {
+    legal = (
+      (λ done. WalksLegally-from_done (sym replied.answers ∙ done)),
+      (λ walk. replied.answers ∙ ap (λ (a : Answer). a.status) (walk_answer-legal walk)),
+    );
+    legal_line = λ walk. subst (λ (a : Answer). Appends sink_before.written sink_after.written a.line) (walk_answer-legal walk) replied.prints;
+    refused = (
+      (λ ended. WalkIsRefused-from_refused (sym replied.answers ∙ ended)),
+      (λ walk. replied.answers ∙ ap (λ (a : Answer). a.status) (walk_answer-refused walk)),
+    );
+    refused_line = λ walk. subst (λ (a : Answer). Appends sink_before.written sink_after.written a.line) (walk_answer-refused walk) replied.prints;
+  }

@@ -1,0 +1,129 @@
+-- `walk TRACE MEMORY`: is each step of a trace the transition of the machine in that memory? Its words, its inputs,
+-- its answer, and what its endings mean. Own, but where another source is named.
+use Rattle.std.specs.Prelude.{◌≡◌, ◌≢◌, ◌↔◌, ℕ, ◌+◌, ◌-◌, ◌==◌, Bool, false, ◌&&◌, All, List, [], ◌∷◌, ◌++◌, length, take, slice_get, Option, Some, None, Ok, if◌then◌else◌, codes}
+use Rattle.std.specs.Fmt.{decimal}
+use Rattle.std.specs.Io.KnownBytes.{Appends}
+use Rattle.file_port.specs.Files.{Name, Files, file_at}
+use Rattle.casm_word.specs.Transition.{Registers, Memory, Outcome, Next, NoCell, BadWord, CallPc, CallFp, NotEqual, outcome, next}
+use Rattle.casm_word.specs.Run.{steps, LegalRun}
+use Rattle.cairo_commands.specs.declared.status.Status.{Status}
+use Rattle.cairo_commands.specs.declared.status.Status.TheVariants.{Done, Refused}
+use Rattle.casm_word.specs.Text.{step_text}
+use Rattle.cairo_commands.specs.TraceFile.{SpellsTrace, trace_of, trace_limit}
+use Rattle.cairo_commands.specs.MemoryFile.{Cell, SpellsMemory, cells_of, memory_of, memory_limit}
+use Rattle.cairo_commands.specs.Answer.{Answer, Input, Task, says}
+use Rattle.cairo_commands.specs.Request.{Request, Walk, are_names}
+use Rattle.cairo_commands.specs.Reading.{◌>>=◌, answered, read_as}
+
+-- ---- its words, its inputs and its lines
+
+-- The names after the word `walk`: a trace and a memory. Own.
+abbrev pub walk_request : List Name → Option Request
+walk_request (trace ∷ memory ∷ []) = if are_names (trace ∷ memory ∷ []) [] then Some (Walk trace memory) else None
+walk_request [] = None
+walk_request (a ∷ []) = None
+walk_request (a ∷ b ∷ c ∷ more) = None
+
+-- The trace is the first input. Own.
+abbrev pub trace_input : Name → Input
+trace_input name = record { position = 1; name = name; limit = trace_limit }
+
+-- The memory is the second input. Own.
+abbrev pub memory_input : Name → Input
+memory_input name = record { position = 2; name = name; limit = memory_limit }
+
+-- The line of a walk along so many legal steps. Own.
+abbrev pub steps_line : ℕ → List ℕ
+steps_line count = codes "walk: " ++ (decimal count ++ codes " steps\n")
+
+-- The line of a walk that is refused at a step, counted from 0. Own.
+abbrev pub refused_line : ℕ → Outcome → List ℕ
+refused_line step found = codes "walk: refused at step " ++ (decimal step ++ (codes ": " ++ (step_text found ++ codes "\n")))
+
+-- ---- its answer
+
+-- Whether two states have the same registers. Own.
+abbrev pub same_registers : Registers → Registers → Bool
+same_registers s t = (s.pc == t.pc) && (s.ap == t.ap) && (s.fp == t.fp)
+
+-- Whether what a step came to is this state. Own.
+abbrev pub is_next : Outcome → Registers → Bool
+is_next (Next s) t = same_registers s t
+is_next (NoCell address) t = false
+is_next (BadWord fault) t = false
+is_next CallPc t = false
+is_next CallFp t = false
+is_next NotEqual t = false
+
+-- The first of these steps, numbered from i on, that isn't the transition, with its number and what the
+-- transition comes to in its place. Own.
+abbrev pub refused_from : Memory → ℕ → List (Registers × Registers) → Option (ℕ × Outcome)
+refused_from m i [] = None
+refused_from m i (step ∷ rest) = if is_next (outcome m step.0) step.1 then refused_from m (i + 1) rest else Some (i, outcome m step.0)
+
+-- The first step between the states that isn't the transition. Own.
+unfoldable pub first_refused : Memory → List Registers → Option (ℕ × Outcome)
+first_refused m states = refused_from m 0 (steps states)
+
+-- What `walk` answers of the states and the cells that its files spell. Own.
+abbrev pub walked : List Registers → Option (ℕ × Outcome) → Answer
+walked states None = says Done (steps_line (length states - 1))
+walked states (Some refused) = says Refused (refused_line refused.0 refused.1)
+
+-- Both files are read, the trace first, and then each step is looked at. Own.
+unfoldable pub walk_answer : Name → Name → Files → Answer
+walk_answer trace memory files = answered (do
+  states ← read_as trace_of (trace_input trace) files
+  cells ← read_as cells_of (memory_input memory) files
+  Ok (walked states (first_refused (memory_of cells) states)))
+
+-- What `walk` reads and answers. Own.
+abbrev pub walk_task : Name → Name → Task
+walk_task trace memory = record {
+  inputs = trace_input trace ∷ memory_input memory ∷ [];
+  outputs = [];
+  answer = walk_answer trace memory;
+}
+
+-- ---- what its endings mean
+
+-- The files have these two, and their bytes spell states and cells. Own.
+pub record SpellsWalk (trace memory : Name) (files : Files) : Type 0 where
+  pub trace_bytes : List ℕ
+  pub memory_bytes : List ℕ
+  pub trace_held : file_at files trace ≡ Some trace_bytes
+  pub memory_held : file_at files memory ≡ Some memory_bytes
+  pub states : List Registers
+  pub cells : List Cell
+  pub states_spelled : SpellsTrace trace_bytes states
+  pub cells_spelled : SpellsMemory memory_bytes cells
+
+-- The files spell states and cells, and the states are a legal run in the memory of the cells. After the
+-- whitepaper's machine with a read-only memory.
+pub record WalksLegally (trace memory : Name) (files : Files) : Type 0 where
+  pub spelled : SpellsWalk trace memory files
+  pub legal : LegalRun (memory_of spelled.cells) spelled.states
+
+-- The files spell states and cells, and one step is the first that isn't the transition. Steps are counted from
+-- 0. Each step before it is the transition. It goes from one state to another, and the transition comes to
+-- something else, which is the cause. After the whitepaper's machine with a read-only memory.
+pub record WalkIsRefused (trace memory : Name) (files : Files) : Type 0 where
+  pub spelled : SpellsWalk trace memory files
+  pub step : ℕ
+  pub from : Registers
+  pub to : Registers
+  pub found : Outcome
+  pub at : slice_get (steps spelled.states) step ≡ Some (from, to)
+  pub legal_before : All (λ earlier. next (memory_of spelled.cells) earlier.0 ≡ Some earlier.1) (take step (steps spelled.states))
+  pub not_next : next (memory_of spelled.cells) from ≢ Some to
+  pub cause : found ≡ outcome (memory_of spelled.cells) from
+
+-- What the endings of `walk` mean. It ends with `Done` exactly where its files spell a legal run, and the line then
+-- tells how many steps that has. It ends with `Refused` exactly where they spell states and cells of which some
+-- step isn't the transition, and the line tells the first, and why. The last two arguments are the bytes that were
+-- written before and now. Own.
+pub record WalkMeans (trace memory : Name) (files : Files) (status : Status) (before now : Option (List ℕ)) : Type 0 where
+  pub legal : (status ≡ Done) ↔ WalksLegally trace memory files
+  pub legal_line : (walk : WalksLegally trace memory files) → Appends before now (steps_line (length walk.spelled.states - 1))
+  pub refused : (status ≡ Refused) ↔ WalkIsRefused trace memory files
+  pub refused_line : (walk : WalkIsRefused trace memory files) → Appends before now (refused_line walk.step walk.found)
