@@ -1,0 +1,5 @@
+pub mod WorkedLines
+pub mod Runs
+pub mod RunLaws
+pub mod Links
+pub mod LineLaws

@@ -1,0 +1,194 @@
+//! Single tokens.
+#![tactic(auto, unfolding(casm_tokens::specs::Marks::mark_of, crate::specs::Readers::after_sign, crate::specs::Readers::after_word, crate::specs::Readers::after_directive, crate::specs::Readers::expect_sign, crate::specs::Readers::expect_word, crate::specs::Readers::number_in, crate::specs::Readers::number_up_to, crate::specs::Readers::zero_in, crate::specs::Readers::label_in, crate::specs::Readers::nothing_in))]
+
+ghost use Rattle.std.specs.Prelude.{◌≡◌, ◌≤◌, length, IfOk};
+ghost use Rattle.casm_grammar.specs.Readers.{sign_code, word_code, directive_code, after_sign, after_word, after_directive, expect_sign, expect_word, number_in, number_up_to, zero_in, label_in, nothing_in};
+ghost use Rattle.casm_grammar.specs.Seen.{seen, seen_rest, seen_after, seen_all, seen_reading};
+
+use crate::directive::{Directive, directive_word};
+use crate::stop::{Parsed, Stop};
+use casm_statements::{Label, Reserved};
+use casm_tokens::{Lexeme, Mark, Symbol, SyntaxKind};
+use goldilocks::Felt;
+
+/// The number of a sign.
+fn sign_code(sign: Symbol) -> u8
+    ensures { result ≡ sign_code sign }
+{
+    sign as u8
+}
+
+/// The number of a reserved word.
+fn word_code(word: Reserved) -> u8
+    ensures { result ≡ word_code word }
+{
+    word as u8
+}
+
+/// The number of a directive's word.
+fn directive_code(word: Directive) -> u8
+    ensures { result ≡ directive_code word }
+{
+    word as u8
+}
+
+/// The stop before these tokens.
+pub(crate) fn refused(tokens: &[Lexeme<'_>]) -> Stop
+    ensures { result ≡ record { left = length tokens.now; kind = SyntaxKind.Token } }
+{
+    Stop {
+        left: tokens.len(),
+        kind: SyntaxKind::Token,
+    }
+}
+
+/// The tokens after the sign, where it stands first.
+pub(crate) fn after_sign<'a>(tokens: &'a [Lexeme<'a>], sign: Symbol) -> Option<&'a [Lexeme<'a>]>
+    ensures { seen_rest result ≡ after_sign sign (seen tokens.now) }
+{
+    let (first, rest) = tokens.split_first()?;
+    match first.mark {
+        Mark::Sign(found) => {
+            if sign_code(found) == sign_code(sign) {
+                Some(rest)
+            } else {
+                None
+            }
+        }
+        _ => None,
+    }
+}
+
+/// The tokens after the reserved word, where it stands first.
+pub(crate) fn after_word<'a>(tokens: &'a [Lexeme<'a>], word: Reserved) -> Option<&'a [Lexeme<'a>]>
+    ensures { seen_rest result ≡ after_word word (seen tokens.now) }
+{
+    let (first, rest) = tokens.split_first()?;
+    match first.mark {
+        Mark::Keyword(found) => {
+            if word_code(found) == word_code(word) {
+                Some(rest)
+            } else {
+                None
+            }
+        }
+        _ => None,
+    }
+}
+
+/// The tokens after the directive's word, where it stands first.
+pub(crate) fn after_directive<'a>(
+    tokens: &'a [Lexeme<'a>],
+    word: Directive,
+) -> Option<&'a [Lexeme<'a>]>
+    ensures { seen_rest result ≡ after_directive word (seen tokens.now) }
+{
+    let (first, rest) = tokens.split_first()?;
+    match first.mark {
+        Mark::Label(label) => match directive_word(label.text) {
+            Some(found) => {
+                if directive_code(found) == directive_code(word) {
+                    Some(rest)
+                } else {
+                    None
+                }
+            }
+            None => None,
+        },
+        _ => None,
+    }
+}
+
+/// The tokens after the sign, which must stand first.
+pub(crate) fn expect_sign<'a>(
+    tokens: &'a [Lexeme<'a>],
+    sign: Symbol,
+) -> Result<&'a [Lexeme<'a>], Stop>
+    ensures { seen_after result ≡ expect_sign sign (seen tokens.now) }
+{
+    match after_sign(tokens, sign) {
+        Some(rest) => Ok(rest),
+        None => Err(refused(tokens)),
+    }
+}
+
+/// The tokens after the reserved word, which must stand first.
+pub(crate) fn expect_word<'a>(
+    tokens: &'a [Lexeme<'a>],
+    word: Reserved,
+) -> Result<&'a [Lexeme<'a>], Stop>
+    ensures { seen_after result ≡ expect_word word (seen tokens.now) }
+{
+    match after_word(tokens, word) {
+        Some(rest) => Ok(rest),
+        None => Err(refused(tokens)),
+    }
+}
+
+/// A number.
+pub(crate) fn number<'a>(tokens: &'a [Lexeme<'a>]) -> Parsed<'a, Felt>
+    ensures { seen_reading (λ x. x) result ≡ number_in (seen tokens.now) }
+{
+    let Some((first, rest)) = tokens.split_first() else {
+        return Err(refused(tokens));
+    };
+    match first.mark {
+        Mark::Number(value) => Ok((value, rest)),
+        _ => Err(refused(tokens)),
+    }
+}
+
+/// A number of at most `most`.
+pub(crate) fn number_up_to<'a>(tokens: &'a [Lexeme<'a>], most: u64) -> Parsed<'a, Felt>
+    ensures value { seen_reading (λ x. x) result ≡ number_up_to most (seen tokens.now) }
+    ensures within { IfOk result (λ p. p.0.number ≤ most) }
+{
+    let (value, rest) = number(tokens)?;
+    if value.number <= most {
+        Ok((value, rest))
+    } else {
+        Err(Stop {
+            left: rest.len() + 1,
+            kind: SyntaxKind::Range,
+        })
+    }
+}
+
+/// The number 0.
+pub(crate) fn zero<'a>(tokens: &'a [Lexeme<'a>]) -> Result<&'a [Lexeme<'a>], Stop>
+    ensures { seen_after result ≡ zero_in (seen tokens.now) }
+{
+    let (value, rest) = number(tokens)?;
+    if value.number == 0 {
+        Ok(rest)
+    } else {
+        Err(Stop {
+            left: rest.len() + 1,
+            kind: SyntaxKind::Token,
+        })
+    }
+}
+
+/// A label.
+pub(crate) fn label<'a>(tokens: &'a [Lexeme<'a>]) -> Parsed<'a, Label<'a>>
+    ensures { seen_reading (λ l. l.text.now) result ≡ label_in (seen tokens.now) }
+{
+    let Some((first, rest)) = tokens.split_first() else {
+        return Err(refused(tokens));
+    };
+    match first.mark {
+        Mark::Label(label) => Ok((label, rest)),
+        _ => Err(refused(tokens)),
+    }
+}
+
+/// No token.
+pub(crate) fn nothing(tokens: &[Lexeme<'_>]) -> Result<(), Stop>
+    ensures { seen_all (λ x. x) result ≡ nothing_in (seen tokens.now) }
+{
+    if tokens.is_empty() {
+        Ok(())
+    } else {
+        Err(refused(tokens))
+    }
+}

@@ -1,0 +1,4 @@
+pub mod Felts
+pub mod Label
+pub mod Words
+pub mod Guesses

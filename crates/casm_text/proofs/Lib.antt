@@ -1,0 +1,6 @@
+pub mod Columns
+pub mod Parses
+pub mod Prints
+pub mod Fits
+pub mod Shows
+pub mod ReadsBack

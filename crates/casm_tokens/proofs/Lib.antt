@@ -1,0 +1,4 @@
+pub mod Numbers
+pub mod LineLemmas
+pub mod Scans
+pub mod Cuts

@@ -1,0 +1,88 @@
+//! The tokens of a text.
+#![tactic(auto, unfolding(crate::specs::Marks::mark_of, crate::specs::Marks::placed_of, crate::specs::Lines::kind_of, crate::specs::Lines::token_at))]
+
+ghost use Rattle.std.specs.Prelude.{◌≡◌, ◌≤◌, ◌+◌, ◌++◌, length, map, IfOk, OnOk, IfErr, None};
+ghost use Rattle.casm_tokens.specs.Marks.{mark_of, placed_of};
+ghost use Rattle.casm_tokens.specs.Lines.{kind_of, token_at, tokens_of, lexical_fault, Tells};
+
+use crate::fault::{ParseFault, SyntaxKind};
+use crate::lines::split_line;
+use crate::marks::{Lexeme, Mark};
+use crate::scanner::{Stop, scan_line};
+use crate::spans::{Token, TokenKind};
+use std::alloc::{AllocError, Global};
+
+/// The tokens of a text, in their order; the bytes of each are those of the text from its start to its end.
+///
+/// A text is refused at the least place where a byte outside comments begins no token ([`SyntaxKind::Char`]), or where a
+/// number has a bad or missing digit ([`SyntaxKind::Number`]) or is p or more ([`SyntaxKind::Range`]).
+pub fn tokens(alloc: Global, text: &[u8]) -> Result<Vec<Token>, ParseFault>
+    requires { length text.now ≤ 16777216 }
+    ensures tokens { IfOk result (λ found. found.items ≡ tokens_of text.now) }
+    ensures whole { OnOk result (lexical_fault text.now ≡ None) }
+    ensures fault { IfErr result (λ fault. Tells fault (lexical_fault text.now)) }
+{
+    let mut found = Vec::new(alloc);
+    let mut lexemes = Vec::new(alloc);
+    let mut line: u32 = 1;
+    let mut start: u32 = 0;
+    let mut rest = text;
+    'lines: loop {
+        let (bytes, next) = split_line(rest);
+        if let Some(stop) = scan_line(bytes, &mut lexemes)? {
+            return Err(stop_fault(line, stop));
+        }
+        push_tokens(&mut found, &lexemes, line, start)?;
+        let Some(next) = next else {
+            return Ok(found);
+        };
+        start += bytes.len() as u32 + 1;
+        line += 1;
+        rest = next;
+    }
+}
+
+/// The refusal of a line at a place where no token stands.
+pub fn stop_fault(line: u32, stop: Stop) -> ParseFault
+    requires { stop.at ≤ 16777216 }
+    ensures { result ≡ ParseFault.Syntax line (stop.at + 1) stop.kind }
+{
+    ParseFault::Syntax {
+        line,
+        column: stop.at + 1,
+        kind: stop.kind,
+    }
+}
+
+/// Appends the tokens of a line that begins at `start`.
+fn push_tokens(
+    found: &mut Vec<Token>,
+    lexemes: &Vec<Lexeme<'_>>,
+    line: u32,
+    start: u32,
+) -> Result<(), AllocError>
+    requires { start ≤ 16777216 }
+    ensures { IfOk result (λ _. found.new.items ≡ found.old.items ++ map (token_at line start) (map placed_of lexemes.now.items)) }
+{
+    for lexeme in lexemes {
+        found.push(Token {
+            line,
+            start: start + lexeme.start,
+            end: start + lexeme.end,
+            kind: kind_of(lexeme.mark),
+        })?;
+    }
+    Ok(())
+}
+
+/// The kind of a token.
+fn kind_of(mark: Mark<'_>) -> TokenKind
+    ensures { result ≡ kind_of (mark_of mark.entry) }
+{
+    match mark {
+        Mark::Sign(_) => TokenKind::Symbol,
+        Mark::Keyword(_) => TokenKind::Word,
+        Mark::Label(_) => TokenKind::Word,
+        Mark::Number(value) => TokenKind::Number(value),
+    }
+}

@@ -1,0 +1,20 @@
+//! The tokens of assembly text.
+#![tactic(auto)]
+
+mod cutter;
+mod fault;
+mod lines;
+mod marks;
+mod pieces;
+mod scanner;
+mod spans;
+
+pub use cutter::{stop_fault, tokens};
+pub use fault::{ParseFault, SyntaxKind};
+pub use lines::split_line;
+pub use marks::{Lexeme, MOST_BYTES, Mark, Symbol};
+pub use scanner::{Stop, scan_line};
+pub use spans::{Token, TokenKind};
+
+#[cfg(test)]
+mod tests;

@@ -1,0 +1,56 @@
+//! The tokens of a line.
+#![tactic(auto, unfolding(crate::specs::Marks::placed_of))]
+
+ghost use Rattle.std.specs.Prelude.{◌≡◌, ◌+◌, ◌≤◌, length, map, IfOk, IfSome};
+ghost use Rattle.casm_tokens.specs.Marks.{placed_of};
+ghost use Rattle.casm_tokens.specs.Pieces.{scan};
+ghost use Rattle.casm_tokens.specs.Views.{stop_of};
+
+use crate::fault::SyntaxKind;
+use crate::marks::Lexeme;
+use crate::pieces::{Piece, piece_at};
+use std::alloc::AllocError;
+
+/// A place of a line where no token stands.
+#[derive(Clone, Copy, Debug, PartialEq, Eq)]
+pub struct Stop {
+    /// How many bytes of the line stand before it.
+    pub at: u32,
+    /// What is wrong there.
+    pub kind: SyntaxKind,
+}
+
+/// Puts the tokens of a line in the place of the lexemes, up to the first place where none stands, and answers that place.
+pub fn scan_line<'a>(
+    line: &'a [u8],
+    lexemes: &mut Vec<Lexeme<'a>>,
+) -> Result<Option<Stop>, AllocError>
+    requires { length line.now ≤ 16777216 }
+    ensures tokens { IfOk result (λ _. map placed_of lexemes.new.items ≡ (scan line.now).placed) }
+    ensures stop { IfOk result (λ stop. stop_of stop ≡ (scan line.now).stop) }
+    ensures within { IfOk result (λ stop. IfSome stop (λ s. s.at ≤ length line.now)) }
+{
+    lexemes.clear();
+    let mut at: u32 = 0;
+    let mut rest = line;
+    'pieces: loop {
+        match piece_at(rest) {
+            Piece::Over => return Ok(None),
+            Piece::Bad(kind) => return Ok(Some(Stop { at, kind })),
+            Piece::Gap => {
+                at += 1;
+                (_, rest) = rest.split_at(1);
+            }
+            Piece::Cut(found) => {
+                let start = at;
+                at += found.len as u32;
+                lexemes.push(Lexeme {
+                    start,
+                    end: at,
+                    mark: found.mark,
+                })?;
+                (_, rest) = rest.split_at(found.len);
+            }
+        }
+    }
+}
