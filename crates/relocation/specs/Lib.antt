@@ -1,0 +1,3 @@
+pub mod Bases
+pub use Rattle.segments.specs.Memory
+pub use Rattle.segments.specs.Relocation
