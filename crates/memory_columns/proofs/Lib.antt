@@ -1,0 +1,5 @@
+pub mod WorkedRows
+pub mod Cells
+pub mod PairFaults
+pub mod OneMemory
+pub mod Fillings

@@ -1,0 +1,7 @@
+pub mod Limbs
+pub mod Equations
+pub mod Filling
+pub use Rattle.sorted_lists.specs.Order
+pub use Rattle.sorted_lists.specs.Difference
+pub use Rattle.sorted_lists.specs.Climbing
+pub use Rattle.sorted_lists.specs.Gaps

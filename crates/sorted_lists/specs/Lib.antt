@@ -1,0 +1,4 @@
+pub mod Order
+pub mod Difference
+pub mod Climbing
+pub mod Gaps
