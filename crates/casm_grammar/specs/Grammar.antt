@@ -41,16 +41,19 @@ infixl 5 ◌or◌
 abbrev pub ◌or◌ : {A : Type 0} → Grammar A → Grammar A → Grammar A
 g or h = λ next. either (g next) (h next)
 
--- A sign, a reserved word, a directive's word, a 0. Own.
+-- A sign. Own.
 abbrev pub say : Symbol → Grammar (Unit {0})
 say s = λ next. sign s (next tt)
 
+-- A reserved word. Own.
 abbrev pub reserve : Reserved → Grammar (Unit {0})
 reserve r = λ next. word r (next tt)
 
+-- A directive's word. Own.
 abbrev pub direct : Directive → Grammar (Unit {0})
 direct d = λ next. directive d (next tt)
 
+-- A number 0. Own.
 abbrev pub nought : Grammar (Unit {0})
 nought = λ next. zero (next tt)
 
@@ -276,6 +279,7 @@ named = gives []
       _ ← say Colon
       gives (body.Label n ∷ []))
 
+-- A statement, or nothing. Own.
 abbrev pub said : Grammar (List Body)
 said = gives []
     or (do

@@ -1,5 +1,6 @@
 pub mod Directives
 pub mod Language
 pub mod Grammar
-pub mod Readers
 pub mod Seen
+pub mod Readers
+pub mod Views

@@ -1,5 +1,6 @@
--- What the private functions of the parser answer, each as a function of the tokens. No public contract rests on it, and
--- none of it need be believed: the public ones speak of the grammar.
+-- What the parser reads of the tokens of a line, each part as a function of the tokens. An auditor needn't read this
+-- file: what is read of a text is computed by it, and the law `reading_laws` of casm_text says that this is what the
+-- grammar says.
 use Rattle.std.specs.Prelude.{ℕ, ◌+◌, ◌==◌, nat_le, ℤ, pos, neg_ℤ, Bool, true, false, List, [], ◌∷◌, length, if◌then◌else◌, Option, Some, None, Result, Ok, Err}
 use Rattle.goldilocks.specs.declared.Felt.{Felt}
 use Rattle.casm_statements.specs.declared.name.Reserved.{Reserved}

@@ -1,6 +1,4 @@
 //! Whole lines.
-#![tactic(auto, unfolding(crate::specs::Readers::target_in, crate::specs::Readers::given_in, crate::specs::Readers::builtins_in, crate::specs::Readers::place_in, crate::specs::Readers::setting_in, crate::specs::Readers::said_in, crate::specs::Readers::named_in, crate::specs::Readers::line_in, casm_tokens::specs::Marks::mark_of))]
-
 ghost use Rattle.std.specs.Prelude.{◌≡◌, ◌≤◌, List, IfOk, IfErr, length};
 ghost use Rattle.casm_statements.specs.declared.Target.TheVariants as target_is;
 ghost use Rattle.casm_statements.specs.declared.Body.{Body};
@@ -8,7 +6,8 @@ ghost use Rattle.casm_statements.specs.declared.Body.TheVariants as body_is;
 ghost use Rattle.casm_grammar.specs.Language.{Derives, Kept, HasFault};
 ghost use Rattle.casm_grammar.specs.Grammar.{whole_line};
 ghost use Rattle.casm_grammar.specs.Readers.{begins_label, target_in, given_in, builtins_in, place_in, setting_in, said_in, named_in, line_in};
-ghost use Rattle.casm_grammar.specs.Seen.{seen, seen_all, seen_reading, target_of, body_of, phrase_of, bodies_of};
+ghost use Rattle.casm_grammar.specs.Seen.{seen, target_of, body_of, phrase_of, bodies_of};
+ghost use Rattle.casm_grammar.specs.Views.{seen_all, seen_reading};
 
 use crate::directive::Directive;
 use crate::marks::{
@@ -20,6 +19,7 @@ use crate::stop::{Parsed, Stop};
 use casm_tokens::{Lexeme, Mark, Symbol, SyntaxKind};
 
 /// The place that a directive gives.
+#[tactic(auto, unfolding(casm_tokens::specs::Marks::mark_of, crate::specs::Readers::target_in))]
 fn target<'a>(tokens: &'a [Lexeme<'a>]) -> Parsed<'a, Place<'a>>
     ensures { seen_reading target_of result ≡ target_in (seen tokens.now) }
 {
@@ -43,6 +43,7 @@ fn target<'a>(tokens: &'a [Lexeme<'a>]) -> Parsed<'a, Place<'a>>
 }
 
 /// Whether the directive's word stands first, and the tokens after it.
+#[tactic(auto, unfolding(crate::specs::Readers::given_in))]
 fn given<'a>(tokens: &'a [Lexeme<'a>], word: Directive) -> (bool, &'a [Lexeme<'a>])
     ensures word { result.0 ≡ (given_in word (seen tokens.now)).0 }
     ensures rest { seen result.1.now ≡ (given_in word (seen tokens.now)).1 }
@@ -54,6 +55,7 @@ fn given<'a>(tokens: &'a [Lexeme<'a>], word: Directive) -> (bool, &'a [Lexeme<'a
 }
 
 /// What follows `builtins`.
+#[tactic(auto, unfolding(crate::specs::Readers::builtins_in))]
 fn builtins<'a>(tokens: &'a [Lexeme<'a>]) -> Result<Phrase<'a>, Stop>
     ensures { seen_all body_of result ≡ builtins_in (seen tokens.now) }
 {
@@ -64,6 +66,7 @@ fn builtins<'a>(tokens: &'a [Lexeme<'a>]) -> Result<Phrase<'a>, Stop>
 }
 
 /// What follows `start`.
+#[tactic(auto, unfolding(crate::specs::Readers::place_in))]
 fn start<'a>(tokens: &'a [Lexeme<'a>]) -> Result<Phrase<'a>, Stop>
     ensures { seen_all body_of result ≡ place_in (λ t. body_is.Start t) (seen tokens.now) }
 {
@@ -73,6 +76,7 @@ fn start<'a>(tokens: &'a [Lexeme<'a>]) -> Result<Phrase<'a>, Stop>
 }
 
 /// What follows `end`.
+#[tactic(auto, unfolding(crate::specs::Readers::place_in))]
 fn end<'a>(tokens: &'a [Lexeme<'a>]) -> Result<Phrase<'a>, Stop>
     ensures { seen_all body_of result ≡ place_in (λ t. body_is.End t) (seen tokens.now) }
 {
@@ -82,6 +86,7 @@ fn end<'a>(tokens: &'a [Lexeme<'a>]) -> Result<Phrase<'a>, Stop>
 }
 
 /// What follows `%`.
+#[tactic(auto, unfolding(crate::specs::Readers::setting_in))]
 fn setting<'a>(tokens: &'a [Lexeme<'a>]) -> Result<Phrase<'a>, Stop>
     ensures { seen_all body_of result ≡ setting_in (seen tokens.now) }
 {
@@ -97,6 +102,7 @@ fn setting<'a>(tokens: &'a [Lexeme<'a>]) -> Result<Phrase<'a>, Stop>
 }
 
 /// A statement, or nothing.
+#[tactic(auto, unfolding(crate::specs::Readers::said_in))]
 fn said<'a>(tokens: &'a [Lexeme<'a>]) -> Result<Option<Phrase<'a>>, Stop>
     ensures { seen_all phrase_of result ≡ said_in (seen tokens.now) }
 {
@@ -108,6 +114,7 @@ fn said<'a>(tokens: &'a [Lexeme<'a>]) -> Result<Option<Phrase<'a>>, Stop>
 }
 
 /// A label, and what it stands before.
+#[tactic(auto, unfolding(crate::specs::Readers::named_in))]
 fn named<'a>(tokens: &'a [Lexeme<'a>]) -> Result<Line<'a>, Stop>
     ensures { seen_all bodies_of result ≡ named_in (seen tokens.now) }
 {
@@ -121,6 +128,7 @@ fn named<'a>(tokens: &'a [Lexeme<'a>]) -> Result<Line<'a>, Stop>
 }
 
 /// Whether a label stands first.
+#[tactic(auto, unfolding(casm_tokens::specs::Marks::mark_of))]
 fn begins_label(tokens: &[Lexeme<'_>]) -> bool
     ensures { result ≡ begins_label (seen tokens.now) }
 {
@@ -131,6 +139,7 @@ fn begins_label(tokens: &[Lexeme<'_>]) -> bool
 }
 
 /// The line that the tokens are.
+#[tactic(auto, unfolding(crate::specs::Readers::line_in))]
 fn line<'a>(tokens: &'a [Lexeme<'a>]) -> Result<Line<'a>, Stop>
     ensures { seen_all bodies_of result ≡ line_in (seen tokens.now) }
 {

@@ -1,9 +1,8 @@
 //! Single tokens.
-#![tactic(auto, unfolding(casm_tokens::specs::Marks::mark_of, crate::specs::Readers::after_sign, crate::specs::Readers::after_word, crate::specs::Readers::after_directive, crate::specs::Readers::expect_sign, crate::specs::Readers::expect_word, crate::specs::Readers::number_in, crate::specs::Readers::number_up_to, crate::specs::Readers::zero_in, crate::specs::Readers::label_in, crate::specs::Readers::nothing_in))]
-
 ghost use Rattle.std.specs.Prelude.{◌≡◌, ◌≤◌, length, IfOk};
 ghost use Rattle.casm_grammar.specs.Readers.{sign_code, word_code, directive_code, after_sign, after_word, after_directive, expect_sign, expect_word, number_in, number_up_to, zero_in, label_in, nothing_in};
-ghost use Rattle.casm_grammar.specs.Seen.{seen, seen_rest, seen_after, seen_all, seen_reading};
+ghost use Rattle.casm_grammar.specs.Seen.{seen};
+ghost use Rattle.casm_grammar.specs.Views.{seen_rest, seen_after, seen_all, seen_reading};
 
 use crate::directive::{Directive, directive_word};
 use crate::stop::{Parsed, Stop};
@@ -43,6 +42,7 @@ pub(crate) fn refused(tokens: &[Lexeme<'_>]) -> Stop
 }
 
 /// The tokens after the sign, where it stands first.
+#[tactic(auto, unfolding(casm_tokens::specs::Marks::mark_of, crate::specs::Readers::after_sign))]
 pub(crate) fn after_sign<'a>(tokens: &'a [Lexeme<'a>], sign: Symbol) -> Option<&'a [Lexeme<'a>]>
     ensures { seen_rest result ≡ after_sign sign (seen tokens.now) }
 {
@@ -60,6 +60,7 @@ pub(crate) fn after_sign<'a>(tokens: &'a [Lexeme<'a>], sign: Symbol) -> Option<&
 }
 
 /// The tokens after the reserved word, where it stands first.
+#[tactic(auto, unfolding(casm_tokens::specs::Marks::mark_of, crate::specs::Readers::after_word))]
 pub(crate) fn after_word<'a>(tokens: &'a [Lexeme<'a>], word: Reserved) -> Option<&'a [Lexeme<'a>]>
     ensures { seen_rest result ≡ after_word word (seen tokens.now) }
 {
@@ -77,6 +78,7 @@ pub(crate) fn after_word<'a>(tokens: &'a [Lexeme<'a>], word: Reserved) -> Option
 }
 
 /// The tokens after the directive's word, where it stands first.
+#[tactic(auto, unfolding(casm_tokens::specs::Marks::mark_of, crate::specs::Readers::after_directive))]
 pub(crate) fn after_directive<'a>(
     tokens: &'a [Lexeme<'a>],
     word: Directive,
@@ -100,6 +102,7 @@ pub(crate) fn after_directive<'a>(
 }
 
 /// The tokens after the sign, which must stand first.
+#[tactic(auto, unfolding(crate::specs::Readers::expect_sign))]
 pub(crate) fn expect_sign<'a>(
     tokens: &'a [Lexeme<'a>],
     sign: Symbol,
@@ -113,6 +116,7 @@ pub(crate) fn expect_sign<'a>(
 }
 
 /// The tokens after the reserved word, which must stand first.
+#[tactic(auto, unfolding(crate::specs::Readers::expect_word))]
 pub(crate) fn expect_word<'a>(
     tokens: &'a [Lexeme<'a>],
     word: Reserved,
@@ -126,6 +130,7 @@ pub(crate) fn expect_word<'a>(
 }
 
 /// A number.
+#[tactic(auto, unfolding(casm_tokens::specs::Marks::mark_of, crate::specs::Readers::number_in))]
 pub(crate) fn number<'a>(tokens: &'a [Lexeme<'a>]) -> Parsed<'a, Felt>
     ensures { seen_reading (λ x. x) result ≡ number_in (seen tokens.now) }
 {
@@ -139,6 +144,7 @@ pub(crate) fn number<'a>(tokens: &'a [Lexeme<'a>]) -> Parsed<'a, Felt>
 }
 
 /// A number of at most `most`.
+#[tactic(auto, unfolding(crate::specs::Readers::number_up_to))]
 pub(crate) fn number_up_to<'a>(tokens: &'a [Lexeme<'a>], most: u64) -> Parsed<'a, Felt>
     ensures value { seen_reading (λ x. x) result ≡ number_up_to most (seen tokens.now) }
     ensures within { IfOk result (λ p. p.0.number ≤ most) }
@@ -155,6 +161,7 @@ pub(crate) fn number_up_to<'a>(tokens: &'a [Lexeme<'a>], most: u64) -> Parsed<'a
 }
 
 /// The number 0.
+#[tactic(auto, unfolding(crate::specs::Readers::zero_in))]
 pub(crate) fn zero<'a>(tokens: &'a [Lexeme<'a>]) -> Result<&'a [Lexeme<'a>], Stop>
     ensures { seen_after result ≡ zero_in (seen tokens.now) }
 {
@@ -170,6 +177,7 @@ pub(crate) fn zero<'a>(tokens: &'a [Lexeme<'a>]) -> Result<&'a [Lexeme<'a>], Sto
 }
 
 /// A label.
+#[tactic(auto, unfolding(casm_tokens::specs::Marks::mark_of, crate::specs::Readers::label_in))]
 pub(crate) fn label<'a>(tokens: &'a [Lexeme<'a>]) -> Parsed<'a, Label<'a>>
     ensures { seen_reading (λ l. l.text.now) result ≡ label_in (seen tokens.now) }
 {
@@ -183,6 +191,7 @@ pub(crate) fn label<'a>(tokens: &'a [Lexeme<'a>]) -> Parsed<'a, Label<'a>>
 }
 
 /// No token.
+#[tactic(auto, unfolding(crate::specs::Readers::nothing_in))]
 pub(crate) fn nothing(tokens: &[Lexeme<'_>]) -> Result<(), Stop>
     ensures { seen_all (λ x. x) result ≡ nothing_in (seen tokens.now) }
 {

@@ -1,10 +1,9 @@
 //! The parts of statements: cells, numbers, operands, conditions and the ends of lines.
-#![tactic(auto, unfolding(crate::specs::Grammar::negative, crate::specs::Readers::reg_in, crate::specs::Readers::offset_in, crate::specs::Readers::rest_of_cell, crate::specs::Readers::cell_in, crate::specs::Readers::imm_in, crate::specs::Readers::term_in, crate::specs::Readers::rest_of_double, crate::specs::Readers::after_cell, crate::specs::Readers::bracket_in, crate::specs::Readers::res_in, crate::specs::Readers::end_in, crate::specs::Readers::increment_in, crate::specs::Readers::inc_in, crate::specs::Readers::condition_in))]
-
 ghost use Rattle.std.specs.Prelude.{◌≡◌, ◌≤◌, pos, neg_ℤ};
 ghost use Rattle.casm_grammar.specs.Grammar.{negative};
 ghost use Rattle.casm_grammar.specs.Readers.{reg_in, offset_in, rest_of_cell, cell_in, imm_in, term_in, rest_of_double, after_cell, bracket_in, res_in, end_in, increment_in, inc_in, condition_in};
-ghost use Rattle.casm_grammar.specs.Seen.{seen, seen_all, seen_reading};
+ghost use Rattle.casm_grammar.specs.Seen.{seen};
+ghost use Rattle.casm_grammar.specs.Views.{seen_all, seen_reading};
 
 use crate::marks::{
     after_sign, after_word, expect_sign, expect_word, nothing, number, number_up_to, refused, zero,
@@ -15,6 +14,7 @@ use casm_tokens::{Lexeme, Symbol};
 use goldilocks::Felt;
 
 /// A register.
+#[tactic(auto, unfolding(crate::specs::Readers::reg_in))]
 fn register<'a>(tokens: &'a [Lexeme<'a>]) -> Parsed<'a, Reg>
     ensures { seen_reading (λ x. x) result ≡ reg_in (seen tokens.now) }
 {
@@ -28,6 +28,7 @@ fn register<'a>(tokens: &'a [Lexeme<'a>]) -> Parsed<'a, Reg>
 }
 
 /// An offset with its sign, or none.
+#[tactic(auto, unfolding(crate::specs::Readers::offset_in))]
 fn offset<'a>(tokens: &'a [Lexeme<'a>]) -> Parsed<'a, i16>
     ensures { seen_reading (λ x. x) result ≡ offset_in (seen tokens.now) }
 {
@@ -51,6 +52,7 @@ fn minus(size: Felt) -> i16
 }
 
 /// A cell after its bracket.
+#[tactic(auto, unfolding(crate::specs::Readers::rest_of_cell))]
 pub(crate) fn rest_of_cell<'a>(tokens: &'a [Lexeme<'a>]) -> Parsed<'a, Cell>
     ensures { seen_reading (λ x. x) result ≡ rest_of_cell (seen tokens.now) }
 {
@@ -61,6 +63,7 @@ pub(crate) fn rest_of_cell<'a>(tokens: &'a [Lexeme<'a>]) -> Parsed<'a, Cell>
 }
 
 /// A cell.
+#[tactic(auto, unfolding(crate::specs::Readers::cell_in))]
 fn cell<'a>(tokens: &'a [Lexeme<'a>]) -> Parsed<'a, Cell>
     ensures { seen_reading (λ x. x) result ≡ cell_in (seen tokens.now) }
 {
@@ -69,6 +72,7 @@ fn cell<'a>(tokens: &'a [Lexeme<'a>]) -> Parsed<'a, Cell>
 }
 
 /// A number, which may have a minus before it.
+#[tactic(auto, unfolding(crate::specs::Readers::imm_in))]
 pub(crate) fn immediate<'a>(tokens: &'a [Lexeme<'a>]) -> Parsed<'a, Felt>
     ensures { seen_reading (λ x. x) result ≡ imm_in (seen tokens.now) }
 {
@@ -81,6 +85,7 @@ pub(crate) fn immediate<'a>(tokens: &'a [Lexeme<'a>]) -> Parsed<'a, Felt>
 }
 
 /// The value with a minus before it.
+#[tactic(auto, unfolding(crate::specs::Grammar::negative))]
 fn negative(value: Felt) -> Felt
     ensures { result ≡ negative value }
 {
@@ -88,6 +93,7 @@ fn negative(value: Felt) -> Felt
 }
 
 /// A cell or a number.
+#[tactic(auto, unfolding(crate::specs::Readers::term_in))]
 pub(crate) fn term<'a>(tokens: &'a [Lexeme<'a>]) -> Parsed<'a, Term>
     ensures { seen_reading (λ x. x) result ≡ term_in (seen tokens.now) }
 {
@@ -101,6 +107,7 @@ pub(crate) fn term<'a>(tokens: &'a [Lexeme<'a>]) -> Parsed<'a, Term>
 }
 
 /// A double after its two brackets.
+#[tactic(auto, unfolding(crate::specs::Readers::rest_of_double))]
 fn rest_of_double<'a>(tokens: &'a [Lexeme<'a>]) -> Parsed<'a, Operand>
     ensures { seen_reading (λ x. x) result ≡ rest_of_double (seen tokens.now) }
 {
@@ -111,6 +118,7 @@ fn rest_of_double<'a>(tokens: &'a [Lexeme<'a>]) -> Parsed<'a, Operand>
 }
 
 /// What follows a cell in an operand.
+#[tactic(auto, unfolding(crate::specs::Readers::after_cell))]
 fn after_cell<'a>(cell: Cell, tokens: &'a [Lexeme<'a>]) -> Parsed<'a, Operand>
     ensures { seen_reading (λ x. x) result ≡ after_cell cell (seen tokens.now) }
 {
@@ -129,6 +137,7 @@ fn after_cell<'a>(cell: Cell, tokens: &'a [Lexeme<'a>]) -> Parsed<'a, Operand>
 }
 
 /// An operand after its first bracket.
+#[tactic(auto, unfolding(crate::specs::Readers::bracket_in))]
 fn bracket<'a>(tokens: &'a [Lexeme<'a>]) -> Parsed<'a, Operand>
     ensures { seen_reading (λ x. x) result ≡ bracket_in (seen tokens.now) }
 {
@@ -141,6 +150,7 @@ fn bracket<'a>(tokens: &'a [Lexeme<'a>]) -> Parsed<'a, Operand>
 }
 
 /// What an instruction computes.
+#[tactic(auto, unfolding(crate::specs::Readers::res_in))]
 pub(crate) fn operand<'a>(tokens: &'a [Lexeme<'a>]) -> Parsed<'a, Operand>
     ensures { seen_reading (λ x. x) result ≡ res_in (seen tokens.now) }
 {
@@ -153,6 +163,7 @@ pub(crate) fn operand<'a>(tokens: &'a [Lexeme<'a>]) -> Parsed<'a, Operand>
 }
 
 /// The end of a line, which a semicolon may stand before.
+#[tactic(auto, unfolding(crate::specs::Readers::end_in))]
 pub(crate) fn end(tokens: &[Lexeme<'_>]) -> Result<(), Stop>
     ensures { seen_all (λ x. x) result ≡ end_in (seen tokens.now) }
 {
@@ -163,6 +174,7 @@ pub(crate) fn end(tokens: &[Lexeme<'_>]) -> Result<(), Stop>
 }
 
 /// `++` and the end of a line.
+#[tactic(auto, unfolding(crate::specs::Readers::increment_in))]
 fn increment(tokens: &[Lexeme<'_>]) -> Result<bool, Stop>
     ensures { seen_all (λ x. x) result ≡ increment_in (seen tokens.now) }
 {
@@ -172,6 +184,7 @@ fn increment(tokens: &[Lexeme<'_>]) -> Result<bool, Stop>
 }
 
 /// The end of a line, and whether ap goes up by one.
+#[tactic(auto, unfolding(crate::specs::Readers::inc_in))]
 pub(crate) fn inc(tokens: &[Lexeme<'_>]) -> Result<bool, Stop>
     ensures { seen_all (λ x. x) result ≡ inc_in (seen tokens.now) }
 {
@@ -191,6 +204,7 @@ pub(crate) fn inc(tokens: &[Lexeme<'_>]) -> Result<bool, Stop>
 }
 
 /// The condition after `if`: a cell that isn't 0.
+#[tactic(auto, unfolding(crate::specs::Readers::condition_in))]
 pub(crate) fn condition<'a>(tokens: &'a [Lexeme<'a>]) -> Parsed<'a, Cell>
     ensures { seen_reading (λ x. x) result ≡ condition_in (seen tokens.now) }
 {

@@ -1,9 +1,8 @@
 //! The statements.
-#![tactic(auto, unfolding(crate::specs::Readers::assert_in, crate::specs::Readers::jump_on, crate::specs::Readers::branch_on, crate::specs::Readers::jump_rel_in, crate::specs::Readers::jump_abs_in, crate::specs::Readers::jump_to_in, crate::specs::Readers::jump_in, crate::specs::Readers::call_on, crate::specs::Readers::call_in, crate::specs::Readers::add_ap_in, crate::specs::Readers::dw_in, crate::specs::Readers::stmt_in))]
-
 ghost use Rattle.std.specs.Prelude.{◌≡◌};
 ghost use Rattle.casm_grammar.specs.Readers.{as_term, assert_in, jump_on, branch_on, jump_rel_by, jump_rel_in, jump_abs_in, jump_to_in, jump_in, call_on, call_in, add_ap_in, dw_in, stmt_in};
-ghost use Rattle.casm_grammar.specs.Seen.{seen, seen_all, body_of};
+ghost use Rattle.casm_grammar.specs.Seen.{seen, body_of};
+ghost use Rattle.casm_grammar.specs.Views.{seen_all};
 
 use crate::marks::{after_sign, after_word, expect_sign, label, refused};
 use crate::parts::{condition, end, immediate, inc, operand, rest_of_cell, term};
@@ -13,6 +12,7 @@ use casm_statements::{Operand, Reserved, Stmt, Term};
 use casm_tokens::{Lexeme, Symbol};
 
 /// An assertion after its first bracket.
+#[tactic(auto, unfolding(crate::specs::Readers::assert_in))]
 fn assertion<'a>(tokens: &'a [Lexeme<'a>]) -> Result<Phrase<'a>, Stop>
     ensures { seen_all body_of result ≡ assert_in (seen tokens.now) }
 {
@@ -24,6 +24,7 @@ fn assertion<'a>(tokens: &'a [Lexeme<'a>]) -> Result<Phrase<'a>, Stop>
 }
 
 /// A jump after its operand.
+#[tactic(auto, unfolding(crate::specs::Readers::jump_on))]
 fn jump_on<'a>(abs: bool, res: Operand, tokens: &'a [Lexeme<'a>]) -> Result<Phrase<'a>, Stop>
     ensures { seen_all body_of result ≡ jump_on abs res (seen tokens.now) }
 {
@@ -32,6 +33,7 @@ fn jump_on<'a>(abs: bool, res: Operand, tokens: &'a [Lexeme<'a>]) -> Result<Phra
 }
 
 /// A branch after `if`.
+#[tactic(auto, unfolding(crate::specs::Readers::branch_on))]
 fn branch_on<'a>(to: Term, tokens: &'a [Lexeme<'a>]) -> Result<Phrase<'a>, Stop>
     ensures { seen_all body_of result ≡ branch_on to (seen tokens.now) }
 {
@@ -71,6 +73,7 @@ fn jump_rel_by<'a>(
 }
 
 /// A jump or a branch after `rel`.
+#[tactic(auto, unfolding(crate::specs::Readers::jump_rel_in))]
 fn jump_rel<'a>(tokens: &'a [Lexeme<'a>]) -> Result<Phrase<'a>, Stop>
     ensures { seen_all body_of result ≡ jump_rel_in (seen tokens.now) }
 {
@@ -79,6 +82,7 @@ fn jump_rel<'a>(tokens: &'a [Lexeme<'a>]) -> Result<Phrase<'a>, Stop>
 }
 
 /// A jump after `abs`.
+#[tactic(auto, unfolding(crate::specs::Readers::jump_abs_in))]
 fn jump_abs<'a>(tokens: &'a [Lexeme<'a>]) -> Result<Phrase<'a>, Stop>
     ensures { seen_all body_of result ≡ jump_abs_in (seen tokens.now) }
 {
@@ -87,6 +91,7 @@ fn jump_abs<'a>(tokens: &'a [Lexeme<'a>]) -> Result<Phrase<'a>, Stop>
 }
 
 /// A jump or a branch to a label.
+#[tactic(auto, unfolding(crate::specs::Readers::jump_to_in))]
 fn jump_to<'a>(tokens: &'a [Lexeme<'a>]) -> Result<Phrase<'a>, Stop>
     ensures { seen_all body_of result ≡ jump_to_in (seen tokens.now) }
 {
@@ -105,6 +110,7 @@ fn jump_to<'a>(tokens: &'a [Lexeme<'a>]) -> Result<Phrase<'a>, Stop>
 }
 
 /// What follows `jmp`.
+#[tactic(auto, unfolding(crate::specs::Readers::jump_in))]
 fn jump<'a>(tokens: &'a [Lexeme<'a>]) -> Result<Phrase<'a>, Stop>
     ensures { seen_all body_of result ≡ jump_in (seen tokens.now) }
 {
@@ -118,6 +124,7 @@ fn jump<'a>(tokens: &'a [Lexeme<'a>]) -> Result<Phrase<'a>, Stop>
 }
 
 /// A call after `rel` or `abs`.
+#[tactic(auto, unfolding(crate::specs::Readers::call_on))]
 fn call_on<'a>(abs: bool, tokens: &'a [Lexeme<'a>]) -> Result<Phrase<'a>, Stop>
     ensures { seen_all body_of result ≡ call_on abs (seen tokens.now) }
 {
@@ -127,6 +134,7 @@ fn call_on<'a>(abs: bool, tokens: &'a [Lexeme<'a>]) -> Result<Phrase<'a>, Stop>
 }
 
 /// What follows `call`.
+#[tactic(auto, unfolding(crate::specs::Readers::call_in))]
 fn call<'a>(tokens: &'a [Lexeme<'a>]) -> Result<Phrase<'a>, Stop>
     ensures { seen_all body_of result ≡ call_in (seen tokens.now) }
 {
@@ -142,6 +150,7 @@ fn call<'a>(tokens: &'a [Lexeme<'a>]) -> Result<Phrase<'a>, Stop>
 }
 
 /// What follows `ap`.
+#[tactic(auto, unfolding(crate::specs::Readers::add_ap_in))]
 fn add_ap<'a>(tokens: &'a [Lexeme<'a>]) -> Result<Phrase<'a>, Stop>
     ensures { seen_all body_of result ≡ add_ap_in (seen tokens.now) }
 {
@@ -152,6 +161,7 @@ fn add_ap<'a>(tokens: &'a [Lexeme<'a>]) -> Result<Phrase<'a>, Stop>
 }
 
 /// What follows `dw`.
+#[tactic(auto, unfolding(crate::specs::Readers::dw_in))]
 fn word_data<'a>(tokens: &'a [Lexeme<'a>]) -> Result<Phrase<'a>, Stop>
     ensures { seen_all body_of result ≡ dw_in (seen tokens.now) }
 {
@@ -161,6 +171,7 @@ fn word_data<'a>(tokens: &'a [Lexeme<'a>]) -> Result<Phrase<'a>, Stop>
 }
 
 /// A statement or a `dw`.
+#[tactic(auto, unfolding(crate::specs::Readers::stmt_in))]
 pub(crate) fn statement<'a>(tokens: &'a [Lexeme<'a>]) -> Result<Phrase<'a>, Stop>
     ensures { seen_all body_of result ≡ stmt_in (seen tokens.now) }
 {

@@ -1,4 +1,5 @@
 pub mod Felts
 pub mod Label
 pub mod Words
+pub mod Canonical
 pub mod Guesses

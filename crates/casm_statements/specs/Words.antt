@@ -40,32 +40,32 @@ is_fp Fp = true
 
 -- The word with dst and op0 one cell below fp, and nothing else: what stands where a statement says nothing of
 -- them. Own.
-unfoldable pub unused : Word
+abbrev pub unused : Word
 unused = record { off_dst = negsuc 0; off_op0 = negsuc 0; off_op1 = pos 0; flags = record no_flags { dst_fp = true; op0_fp = true } }
 
 -- The word with this cell as dst. Own.
-unfoldable pub with_dst : Word → Cell → Word
+abbrev pub with_dst : Word → Cell → Word
 with_dst w c = record w { off_dst = c.off; flags = record w.flags { dst_fp = is_fp c.reg } }
 
 -- The word with this cell as op0. Own.
-unfoldable pub with_op0 : Word → Cell → Word
+abbrev pub with_op0 : Word → Cell → Word
 with_op0 w c = record w { off_op0 = c.off; flags = record w.flags { op0_fp = is_fp c.reg } }
 
 -- The word with this cell as op1. Own.
-unfoldable pub with_op1 : Word → Cell → Word
+abbrev pub with_op1 : Word → Cell → Word
 with_op1 w c = record w { off_op1 = c.off; flags = record w.flags { op1_fp = is_fp c.reg; op1_ap = not (is_fp c.reg) } }
 
 -- The word with the number behind it as op1. Own.
-unfoldable pub with_immediate : Word → Word
+abbrev pub with_immediate : Word → Word
 with_immediate w = record w { off_op1 = pos 1; flags = record w.flags { op1_imm = true } }
 
 -- The word that takes op1 from a term, and the immediate. Own.
-unfoldable pub with_term : Word → Term → Word × Option Felt
+abbrev pub with_term : Word → Term → Word × Option Felt
 with_term w (term.Cell c) = (with_op1 w c, None)
 with_term w (term.Imm v) = (with_immediate w, Some v)
 
 -- The word that computes an operand, and the immediate. Own.
-unfoldable pub with_operand : Word → Operand → Word × Option Felt
+abbrev pub with_operand : Word → Operand → Word × Option Felt
 with_operand w (operand.Deref c) = (with_op1 w c, None)
 with_operand w (operand.Double c o) = (record (with_op0 w c) { off_op1 = o }, None)
 with_operand w (operand.Imm v) = (with_immediate w, Some v)

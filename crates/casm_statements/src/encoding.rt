@@ -1,5 +1,4 @@
 //! The word of a statement.
-#![tactic(auto, unfolding(crate::specs::Words::unused, crate::specs::Words::with_dst, crate::specs::Words::with_op0, crate::specs::Words::with_op1, crate::specs::Words::with_immediate, crate::specs::Words::with_term, crate::specs::Words::with_operand, crate::specs::Words::encoding))]
 
 ghost use Rattle.std.specs.Prelude.{◌≡◌, pos, not, true, false};
 ghost use Rattle.casm_statements.specs.Words.{no_flags, unused, is_fp, with_dst, with_op0, with_op1, with_immediate, with_term, with_operand, encoding};
@@ -39,6 +38,7 @@ const UNUSED: Word = Word {
 };
 
 /// The word of a statement, and the number that follows it as its immediate.
+#[tactic(auto, unfolding(crate::specs::Words::encoding))]
 pub fn to_word(s: &Stmt) -> (Word, Option<Felt>)
     ensures { result ≡ encoding s.now }
 {
@@ -99,6 +99,7 @@ fn call_word(abs: bool) -> Word
 }
 
 /// The word of a return.
+#[tactic(auto, unfolding(crate::specs::Words::encoding))]
 fn ret_word() -> Word
     ensures { result ≡ (encoding Stmt.Ret).0 }
 {

@@ -1,5 +1,4 @@
 //! The statement of a word.
-#![tactic(auto, unfolding(crate::specs::Guesses::cell_at, crate::specs::Guesses::term_in, crate::specs::Guesses::plain_in, crate::specs::Guesses::operand_in, crate::specs::Guesses::stmt_in, crate::specs::Guesses::flag_list))]
 
 ghost use Rattle.std.specs.Prelude.{◌≡◌, ◌↔◌, IsTrue, Some};
 ghost use Rattle.casm_statements.specs.Words.{encoding};
@@ -118,6 +117,7 @@ fn operand_in(w: Word, imm: Option<Felt>) -> Operand
 }
 
 /// The only statement that may be written as this word and immediate.
+#[tactic(auto, unfolding(crate::specs::Guesses::stmt_in))]
 fn stmt_in(w: Word, imm: Option<Felt>) -> Stmt
     ensures { result ≡ stmt_in w imm }
 {

@@ -5,6 +5,7 @@ mod encoding;
 mod guess;
 mod label;
 mod name;
+mod text;
 
 pub use encoding::to_word;
 use goldilocks::Felt;

@@ -232,3 +232,24 @@ fn words_without_statements(rt: HostRuntime) {
         assert_eq!(rt; of_word(&word, None), None, "at {number}");
     }
 }
+
+#[test]
+fn canonical_texts(rt: HostRuntime) -> Result<(), Fail> {
+    let Some(name) = Name::new(rt.alloc(), b"loop".as_slice())? else {
+        assert!(rt; false, "`loop` is a label");
+        return Ok(());
+    };
+    let to = Term::Imm(Felt::ONE.neg());
+    let branch = Stmt::Branch {
+        cond: BELOW_FP,
+        to,
+        inc: true,
+    };
+    let text = format!(in rt.alloc(); "{branch}")?;
+    assert_eq!(rt; text.as_str(), "jmp rel -1 if [fp - 3] != 0; ap++");
+    let body = Body::CallTo(name);
+    let item = Item { line: 7, body };
+    let text = format!(in rt.alloc(); "{item}")?;
+    assert_eq!(rt; text.as_str(), "call loop");
+    Ok(())
+}

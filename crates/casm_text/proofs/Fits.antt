@@ -8,7 +8,8 @@ use Rattle.std.specs.Str.Parse.{AllDigits}
 use Rattle.casm_statements.specs.declared.Body.{Body}
 use Rattle.casm_statements.specs.Label.{is_word_byte}
 use Rattle.casm_tokens.specs.Marks.{Mark, marks}
-use Rattle.casm_tokens.specs.Pieces.{Piece, Over, Gap, Cut, piece_at, run_piece, sign_piece, sign_at, Scanned, after, scan_from, is_blank, begins_comment}
+use Rattle.casm_tokens.specs.Pieces.{Piece, Over, Gap, Cut, piece_at, run_piece, sign_piece, sign_at, Scanned, after, scan_from}
+use Rattle.casm_tokens.specs.Tokens.{is_blank, begins_comment}
 use Rattle.casm_tokens.specs.Lines.{is_in_line}
 use Rattle.casm_tokens.proofs.Scans.{scan_cut, scan_gap}
 use Rattle.casm_grammar.specs.Language.{Language, ended, Derives, Kept}

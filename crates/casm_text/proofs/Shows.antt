@@ -40,7 +40,7 @@ use Rattle.casm_grammar.specs.Directives.{directive_word}
 use Rattle.casm_grammar.specs.Language.{Language, ended, sign, word, directive, label, number, up_to, zero as nought}
 use Rattle.casm_grammar.specs.Grammar.{negative, reg, offset, cell, double, imm, term, res, end, inc, way, condition, stmt, target, given, setting, said, whole_line}
 use Rattle.casm_text.specs.Canonical.{reg_text, offset_text, cell_text, half, number_text, term_text, operand_text, inc_text, way_text, stmt_text, target_text, word_text, body_text}
-use Rattle.casm_text.specs.Views.{IsOffset, IsTerm, IsOperand, IsStmt, IsTarget, IsBody}
+use Rattle.casm_text.specs.Bounds.{IsOffset, IsTerm, IsOperand, IsStmt, IsTarget, IsBody}
 use Rattle.casm_text.proofs.Fits.{Fits, Fits-end, Fits-map, Fits-text, Fits-gap, Fits-cut, Fits-run, ends_run, all_digits-run}
 
 -- a sign and a reserved word

@@ -1,3 +1,5 @@
+pub mod TextReading
 pub mod Meaning
-pub mod Views
 pub mod Canonical
+pub mod Views
+pub mod Bounds

@@ -1,12 +1,13 @@
 -- What a text means, and the first fault of one that means nothing.
-use Rattle.std.specs.Prelude.{◌≡◌, ◌⊎◌, ℕ, zero, suc, ◌+◌, List, [], ◌∷◌, ◌++◌, map, Some, None}
+use Rattle.std.specs.Prelude.{◌≡◌, ◌⊎◌, ℕ, zero, suc, ◌+◌, List, [], ◌∷◌, ◌++◌, map}
 use Rattle.casm_statements.specs.declared.Body.{Body}
 use Rattle.casm_statements.specs.declared.Item.{Item}
+use Rattle.casm_tokens.specs.declared.spans.Token.{Token}
 use Rattle.casm_tokens.specs.declared.fault.ParseFault.{ParseFault}
 use Rattle.casm_tokens.specs.declared.fault.ParseFault.TheVariants.{Syntax, Memory}
 use Rattle.casm_tokens.specs.Marks.{Placed, marks}
-use Rattle.casm_tokens.specs.Pieces.{scan}
-use Rattle.casm_tokens.specs.Lines.{lines, Fault, lexical_fault}
+use Rattle.casm_tokens.specs.Tokens.{CutsInto}
+use Rattle.casm_tokens.specs.Lines.{AreLines, Fault, HasTokens, HasStop}
 use Rattle.casm_grammar.specs.Language.{Derives, Kept, HasFault}
 use Rattle.casm_grammar.specs.Grammar.{whole_line}
 
@@ -19,12 +20,13 @@ item_on line body = record { line = line; body = body }
 abbrev pub AreItems : ℕ → List (List ℕ) → List Item → Type 0
 AreItems n [] items = items ≡ []
 AreItems n (bytes ∷ others) items =
-    (v : List Body) × (rest : List Item) × (items ≡ map (item_on n) v ++ rest) × Derives Kept whole_line v (marks (scan bytes).placed) × AreItems (n + 1) others rest
+    (tokens : List Placed) × (v : List Body) × (rest : List Item) × (items ≡ map (item_on n) v ++ rest) × CutsInto bytes tokens × Derives Kept whole_line v (marks tokens) × AreItems (n + 1) others rest
 
--- The text is made of tokens, and its lines mean these items. Own.
+-- The text means these items: they are those of its lines. Own.
 pub record Reads (text : List ℕ) (items : List Item) : Type 0 where
-  pub cut : lexical_fault text ≡ None
-  pub mean : AreItems 1 (lines text) items
+  pub lines : List (List ℕ)
+  pub are_lines : AreLines text lines
+  pub mean : AreItems 1 lines items
 
 -- The meanings of items, without their lines. Own.
 abbrev pub bodies : List Item → List Body
@@ -45,22 +47,37 @@ column_at end (t ∷ ts) (suc n) = column_at t.end ts n
 
 -- The line with this number is none of the grammar, and this is its first fault. Own.
 pub record IsWrong (n : ℕ) (bytes : List ℕ) (f : Fault) : Type 0 where
+  pub tokens : List Placed
+  pub cut : CutsInto bytes tokens
   pub at : ℕ
-  pub fault : HasFault whole_line (marks (scan bytes).placed) at f.kind
+  pub fault : HasFault whole_line (marks tokens) at f.kind
   pub line : f.line ≡ n
-  pub column : f.column ≡ column_at 0 (scan bytes).placed at
+  pub column : f.column ≡ column_at 0 tokens at
+
+-- The line is one of the grammar. Own.
+pub record IsRight (bytes : List ℕ) : Type 0 where
+  pub tokens : List Placed
+  pub cut : CutsInto bytes tokens
+  pub meant : List Body
+  pub derives : Derives Kept whole_line meant (marks tokens)
 
 -- The first line that is none of the grammar has this fault; the first line has this number. Own.
 abbrev pub IsFirstWrong : ℕ → List (List ℕ) → Fault → Type 0
 IsFirstWrong n [] f = ⊥
-IsFirstWrong n (bytes ∷ others) f =
-    IsWrong n bytes f
-    ⊎ ((v : List Body) × Derives Kept whole_line v (marks (scan bytes).placed) × IsFirstWrong (n + 1) others f)
+IsFirstWrong n (bytes ∷ others) f = IsWrong n bytes f ⊎ (IsRight bytes × IsFirstWrong (n + 1) others f)
+
+-- The text has tokens, and this is the first fault of its first line that is none of the grammar. Own.
+pub record HasWrongLine (text : List ℕ) (f : Fault) : Type 0 where
+  pub tokens : List Token
+  pub cut : HasTokens text tokens
+  pub lines : List (List ℕ)
+  pub are_lines : AreLines text lines
+  pub first : IsFirstWrong 1 lines f
 
 -- The fault of a text: the least place where no token stands, or, where there is none, the first fault of the first
 -- line that is none of the grammar. Own.
 abbrev pub IsTextFault : List ℕ → Fault → Type 0
-IsTextFault text f = (lexical_fault text ≡ Some f) ⊎ ((lexical_fault text ≡ None) × IsFirstWrong 1 (lines text) f)
+IsTextFault text f = HasStop text f ⊎ HasWrongLine text f
 
 -- A refusal is the text's fault, unless there was no memory. Own.
 abbrev pub TellsText : ParseFault → List ℕ → Type 0

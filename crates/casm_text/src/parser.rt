@@ -27,7 +27,7 @@ struct Wrong {
 /// The items of a text, with their lines from 1.
 ///
 /// A text is refused first at the least place where no token stands, as by [`tokens`](casm_tokens::tokens); then at the
-/// first token that makes its line none of the grammar ([`SyntaxKind::Token`]) or that is a number out of its bounds
+/// first token with which its line begins none of the grammar ([`SyntaxKind::Token`]) or that is a number out of its bounds
 /// ([`SyntaxKind::Range`]), or behind a line's last token where more is missing ([`SyntaxKind::Token`]).
 pub fn parse(alloc: Global, text: &[u8]) -> Result<Vec<Item>, ParseFault>
     requires { length text.now ≤ 16777216 }

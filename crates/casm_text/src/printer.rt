@@ -5,7 +5,7 @@ ghost use Rattle.std.specs.Prelude.{◌≡◌, ◌++◌, OnOk, IfOk};
 ghost use Rattle.std.specs.Fmt.{decimal};
 ghost use Rattle.casm_text.specs.Canonical.{reg_text, offset_text, cell_text, number_text, term_text, operand_text, inc_text, way_text, stmt_text, target_text, word_text, body_text, printed};
 ghost use Rattle.casm_text.specs.Meaning.{Means, bodies};
-ghost use Rattle.casm_text.specs.Views.{IsOffset, IsTerm, IsOperand, IsStmt, IsTarget, IsBody};
+ghost use Rattle.casm_text.specs.Bounds.{IsOffset, IsTerm, IsOperand, IsStmt, IsTarget, IsBody};
 
 use casm_statements::{Body, Cell, Item, Name, Operand, Reg, Stmt, Target, Term};
 use goldilocks::{Felt, PRIME};

@@ -1,4 +1,5 @@
 use super::*;
+use goldilocks::Felt;
 use std::alloc::{AllocError, Global};
 use std::test::Fail;
 
@@ -16,7 +17,7 @@ fn fault(alloc: Global, text: &[u8]) -> Option<ParseFault> {
 #[test]
 fn faults_and_their_places(rt: HostRuntime) {
     use SyntaxKind::{Char, Number, Range, Token};
-    let cases: [(&[u8], u32, u32, SyntaxKind); 80] = [
+    let cases: [(&[u8], u32, u32, SyntaxKind); 87] = [
         (b"[ap] = [fp + 40000]", 1, 14, Range),
         (b"ret ret", 1, 5, Token),
         (b"jmp rel", 1, 8, Token),
@@ -61,6 +62,7 @@ fn faults_and_their_places(rt: HostRuntime) {
         // the first of several
         (b"[ap + 40000] = = 1", 1, 7, Range),
         (b"ret ret\n\n\n\n\n\n\n\nret @", 9, 5, Char),
+        (b"\nret ret\n\n\n\n\n\n\n[ap] @", 9, 6, Char),
         (b"ret ret\n[ap + 40000] = 1", 1, 5, Token),
         (b"ret\n[ap + 40000] = 1\nret ret", 2, 7, Range),
         // conditions
@@ -106,6 +108,12 @@ fn faults_and_their_places(rt: HostRuntime) {
         // wrong tokens
         (b"f: g: ret", 1, 4, Token),
         (b"ap: ret", 1, 3, Token),
+        (b"fp: ret", 1, 1, Token),
+        (b"if: ret", 1, 1, Token),
+        (b"dw: ret", 1, 3, Token),
+        (b"abs: ret", 1, 1, Token),
+        (b"call ret", 1, 6, Token),
+        (b"%start rel", 1, 8, Token),
         (b"jmp if", 1, 5, Token),
         (b"call rel [ap]; ap++", 1, 16, Token),
         (b"ap += 1; ap++", 1, 10, Token),
@@ -121,23 +129,30 @@ fn faults_and_their_places(rt: HostRuntime) {
     }
 }
 
-/// The canonical text of what a text means.
-fn reprinted(alloc: Global, text: &[u8]) -> Result<Option<Vec<u8>>, AllocError> {
+/// The canonical text of what a text means: as it is printed, as what is read back of that is printed, and as each item
+/// is shown.
+fn canonical(alloc: Global, text: &[u8]) -> Result<Option<(Vec<u8>, Vec<u8>, String)>, AllocError> {
     if text.len() > 16777216 {
         return Ok(None);
     }
-    match parse(alloc, text) {
-        Ok(items) => {
-            let text = print(alloc, &items)?;
-            Ok(Some(text))
-        }
-        Err(_) => Ok(None),
+    let Ok(items) = parse(alloc, text) else {
+        return Ok(None);
+    };
+    let printed = print(alloc, &items)?;
+    let Some(again) = read_back(alloc, &items)? else {
+        return Ok(None);
+    };
+    let again = print(alloc, &again)?;
+    let mut shown = String::new(alloc);
+    for item in &items {
+        writeln!(shown, "{item}")?;
     }
+    Ok(Some((printed, again, shown)))
 }
 
 #[test]
 fn forms_and_their_canonical_texts(rt: HostRuntime) -> Result<(), Fail> {
-    let cases: [(&[u8], &[u8]); 50] = [
+    let cases: [(&[u8], &[u8]); 56] = [
         (b"", b""),
         (b"\n \t\r\n# nothing\n", b""),
         (b"ret", b"ret\n"),
@@ -196,15 +211,21 @@ fn forms_and_their_canonical_texts(rt: HostRuntime) -> Result<(), Fail> {
         ),
         (b"jmp f", b"jmp f\n"),
         (b"jmp f; ap++", b"jmp f; ap++\n"),
+        (b"jmp f, ap++;", b"jmp f; ap++\n"),
+        (b"jmp f if [ap] != 0", b"jmp f if [ap] != 0\n"),
         (b"jmp f if [ap] != 0; ap++", b"jmp f if [ap] != 0; ap++\n"),
         (b"call rel 4", b"call rel 4\n"),
         (b"call abs [fp - 2];", b"call abs [fp - 2]\n"),
         (b"call f", b"call f\n"),
+        (b"call f;", b"call f\n"),
         (b"ap += [fp] + 1", b"ap += [fp] + 1\n"),
         (b"dw -1", b"dw 0xffffffff00000000\n"),
         (b"dw 0x00;", b"dw 0x0\n"),
         (b"f: ret", b"f:\nret\n"),
         (b"start: // here\n", b"start:\n"),
+        (b"apx:ret", b"apx:\nret\n"),
+        (b"_ :\nf_1:\nAP:", b"_:\nf_1:\nAP:\n"),
+        (b"%start 4294967295", b"%start 4294967295\n"),
         (b"%builtins", b"%builtins\n"),
         (
             b"% builtins output range_check",
@@ -217,15 +238,12 @@ fn forms_and_their_canonical_texts(rt: HostRuntime) -> Result<(), Fail> {
         (b"%start output\n%end f_1", b"%start output\n%end f_1\n"),
     ];
     for (text, want) in cases {
-        let found = reprinted(rt.alloc(), text)?;
-        match &found {
-            Some(found) => assert_eq!(rt; found.as_slice(), want, "at {text:?}"),
-            None => assert!(rt; false, "at {text:?}"),
-        }
-        // and what is printed means the same
-        let again = reprinted(rt.alloc(), want)?;
-        match &again {
-            Some(again) => assert_eq!(rt; again.as_slice(), want, "at {text:?}"),
+        match canonical(rt.alloc(), text)? {
+            Some((printed, again, shown)) => {
+                assert_eq!(rt; printed.as_slice(), want, "at {text:?}");
+                assert_eq!(rt; again.as_slice(), want, "at {text:?}");
+                assert_eq!(rt; shown.as_bytes(), want, "at {text:?}");
+            }
             None => assert!(rt; false, "at {text:?}"),
         }
     }
@@ -244,5 +262,244 @@ fn items_have_their_lines(rt: HostRuntime) -> Result<(), Fail> {
         lines.push(item.line)?;
     }
     assert_eq!(rt; lines.as_slice(), [2, 2, 4, 5].as_slice());
+    Ok(())
+}
+
+#[test]
+fn lines_cut_short_and_with_a_wrong_token(rt: HostRuntime) -> Result<(), Fail> {
+    // A blank follows each token. Below it stands `o` where the line may end.
+    let cases: [(&[u8], &[u8]); 21] = [
+        (
+            b"[ ap + 3 ] = [ fp - 2 ] ; ap ++ ; ",
+            b"                       o o     o o",
+        ),
+        (
+            b"[ fp ] = [ [ fp + 1 ] - 2 ] , ap ++ ",
+            b"                           o       o",
+        ),
+        (
+            b"[ ap ] = [ fp ] + - 1 ; ap ++ ",
+            b"               o     o o     o",
+        ),
+        (
+            b"[ ap ] = [ fp ] * [ ap - 1 ] ",
+            b"               o            o",
+        ),
+        (b"[ ap ] = [ fp ] - 1 ", b"               o   o"),
+        (b"[ ap ] = - 5 ; ", b"            o o"),
+        (
+            b"jmp rel [ ap ] + 1 ; ap ++ ",
+            b"              o   o o     o",
+        ),
+        (b"jmp abs [ [ ap ] ] ", b"                  o"),
+        (
+            b"jmp rel - 7 if [ ap ] != 0 ; ap ++ ",
+            b"           o              o o     o",
+        ),
+        (b"jmp f ; ap ++ ", b"     o o     o"),
+        (b"jmp f if [ fp - 1 ] != 0 ", b"     o                  o"),
+        (b"call rel [ fp ] ; ", b"               o o"),
+        (b"call abs 4 ", b"          o"),
+        (b"call f ; ", b"      o o"),
+        (b"ret ; ", b"   o o"),
+        (b"ap += [ ap ] * 2 ; ", b"            o   o o"),
+        (b"dw - 1 ; ", b"      o o"),
+        (b"f : ret ", b"   o   o"),
+        (
+            b"% builtins output range_check ",
+            b"          o      o           o",
+        ),
+        (b"% start 7 ", b"         o"),
+        (b"% end last ", b"          o"),
+    ];
+    for (text, ends) in cases {
+        for (i, byte) in text.iter().enumerate() {
+            if i >= 100 {
+                break;
+            }
+            let want = ParseFault::Syntax {
+                line: 1,
+                column: i as u32 + 1,
+                kind: SyntaxKind::Token,
+            };
+            if *byte == b' ' {
+                let found = fault(rt.alloc(), &text[..i]);
+                let may_end = ends.get(i).is_some_and(|end| *end == b'o');
+                let want = if may_end { None } else { Some(want) };
+                assert_eq!(rt; found, want, "before {i} of {text:?}");
+            } else if i == 0 || text[i - 1] == b' ' {
+                // no token of these lines is a colon, but that behind a label
+                let wrong = if *byte == b':' { b'=' } else { b':' };
+                let mut other = text[..i].to_vec(rt.alloc())?;
+                other.push(wrong)?;
+                assert_eq!(rt; fault(rt.alloc(), &other), Some(want), "at {i} of {text:?}");
+            }
+        }
+    }
+    Ok(())
+}
+
+/// Whether the last item of a text is the statement, on this line.
+fn says(alloc: Global, text: &str, line: u32, stmt: Stmt) -> bool {
+    let text = text.as_bytes();
+    if text.len() > 16777216 {
+        return false;
+    }
+    let Ok(items) = parse(alloc, text) else {
+        return false;
+    };
+    match items.as_slice().split_last() {
+        Some((item, _)) => match &item.body {
+            Body::Stmt(found) => *found == stmt && item.line == line,
+            _ => false,
+        },
+        None => false,
+    }
+}
+
+const AP: Cell = Cell {
+    reg: Reg::Ap,
+    off: 1,
+};
+
+const FP: Cell = Cell {
+    reg: Reg::Fp,
+    off: -3,
+};
+
+/// The ends of a line with an increment or none.
+const ENDS: [(&str, bool); 6] = [
+    ("", false),
+    (" ;", false),
+    ("; ap++", true),
+    (", ap++", true),
+    (";ap ++;", true),
+    (" , ap++ ;", true),
+];
+
+/// What may stand around a line, and the number that the line has then.
+const FRAMES: [(&str, &str, u32); 5] = [
+    ("", "", 1),
+    ("f:", " # why", 1),
+    ("\n\r\n\t", "\t\r\n", 3),
+    ("// a\n\n", "//\n\n", 3),
+    ("# f: ret\n _ : ", "\n # end", 2),
+];
+
+#[test]
+fn every_statement_with_every_operand(rt: HostRuntime) -> Result<(), Fail> {
+    let seven = Felt { number: 7 };
+    let operands: [(&str, Operand); 9] = [
+        ("[fp - 3]", Operand::Deref(FP)),
+        ("[[ap + 1] - 3]", Operand::Double(AP, -3)),
+        ("7", Operand::Imm(seven)),
+        ("- 7", Operand::Imm(seven.neg())),
+        ("[ap+1] + [fp-3]", Operand::Sum(AP, Term::Cell(FP))),
+        ("[ap+1] + -7", Operand::Sum(AP, Term::Imm(seven.neg()))),
+        ("[ap+1] - 7", Operand::Sum(AP, Term::Imm(seven.neg()))),
+        ("[ap+1] * [fp-3]", Operand::Product(AP, Term::Cell(FP))),
+        ("[ap+1]*7", Operand::Product(AP, Term::Imm(seven))),
+    ];
+    for (operand, res) in operands {
+        for (end, inc) in ENDS {
+            for (before, after, line) in FRAMES {
+                let alloc = rt.alloc();
+                let text = format!(in alloc; "{before}[fp - 3] = {operand}{end}{after}")?;
+                let want = Stmt::Assert { dst: FP, res, inc };
+                assert!(rt; says(alloc, text.as_str(), line, want), "at {text}");
+                let text = format!(in alloc; "{before}jmp rel {operand}{end}{after}")?;
+                let want = Stmt::Jump {
+                    abs: false,
+                    res,
+                    inc,
+                };
+                assert!(rt; says(alloc, text.as_str(), line, want), "at {text}");
+                let text = format!(in alloc; "{before}jmp abs {operand}{end}{after}")?;
+                let want = Stmt::Jump {
+                    abs: true,
+                    res,
+                    inc,
+                };
+                assert!(rt; says(alloc, text.as_str(), line, want), "at {text}");
+                // `ap +=` takes no increment
+                let text = format!(in alloc; "{before}ap += {operand}{end}{after}")?;
+                let is_meant = says(alloc, text.as_str(), line, Stmt::AddAp { res });
+                assert_eq!(rt; is_meant, !inc, "at {text}");
+            }
+        }
+    }
+    Ok(())
+}
+
+#[test]
+fn every_statement_with_every_term(rt: HostRuntime) -> Result<(), Fail> {
+    let seven = Felt { number: 7 };
+    let terms: [(&str, Term); 3] = [
+        ("[fp - 3]", Term::Cell(FP)),
+        ("7", Term::Imm(seven)),
+        ("-7", Term::Imm(seven.neg())),
+    ];
+    for (term, to) in terms {
+        for (end, inc) in ENDS {
+            for (before, after, line) in FRAMES {
+                let alloc = rt.alloc();
+                let text = format!(in alloc;
+                    "{before}jmp rel {term} if [ap + 1] != 0{end}{after}"
+                )?;
+                let want = Stmt::Branch { cond: AP, to, inc };
+                assert!(rt; says(alloc, text.as_str(), line, want), "at {text}");
+                // a call takes no increment
+                let text = format!(in alloc; "{before}call rel {term}{end}{after}")?;
+                let is_meant = says(alloc, text.as_str(), line, Stmt::Call { abs: false, to });
+                assert_eq!(rt; is_meant, !inc, "at {text}");
+                let text = format!(in alloc; "{before}call abs {term}{end}{after}")?;
+                let is_meant = says(alloc, text.as_str(), line, Stmt::Call { abs: true, to });
+                assert_eq!(rt; is_meant, !inc, "at {text}");
+            }
+        }
+    }
+    Ok(())
+}
+
+/// Whether the last item of a text has this canonical text, and is on this line.
+fn reads_as(alloc: Global, text: &str, line: u32, canonical: &str) -> Result<bool, AllocError> {
+    let bytes = text.as_bytes();
+    if bytes.len() > 16777216 {
+        return Ok(false);
+    }
+    let Ok(items) = parse(alloc, bytes) else {
+        return Ok(false);
+    };
+    match items.as_slice().split_last() {
+        Some((item, _)) => {
+            let found = format!(in alloc; "{}", item.body)?;
+            Ok(found.as_str() == canonical && item.line == line)
+        }
+        None => Ok(false),
+    }
+}
+
+#[test]
+fn every_form_with_a_name_or_a_word(rt: HostRuntime) -> Result<(), Fail> {
+    // A statement, its canonical text, and whether it takes an increment.
+    let forms: [(&str, &str, bool); 5] = [
+        ("ret", "ret", false),
+        ("dw 7", "dw 0x7", false),
+        ("jmp g", "jmp g", true),
+        ("jmp g if [ap+1]!=0x0", "jmp g if [ap + 1] != 0", true),
+        ("call g", "call g", false),
+    ];
+    for (form, canonical, takes) in forms {
+        for (end, inc) in ENDS {
+            for (before, after, line) in FRAMES {
+                let alloc = rt.alloc();
+                let text = format!(in alloc; "{before}{form}{end}{after}")?;
+                let increment = if inc { "; ap++" } else { "" };
+                let wanted = format!(in alloc; "{canonical}{increment}")?;
+                let is_meant = reads_as(alloc, text.as_str(), line, wanted.as_str())?;
+                assert_eq!(rt; is_meant, takes || !inc, "at {text}");
+            }
+        }
+    }
     Ok(())
 }

@@ -1,4 +1,9 @@
 pub mod Numbers
 pub mod LineLemmas
 pub mod Scans
+pub mod Shapes
+pub mod Sound
+pub mod Complete
 pub mod Cuts
+pub mod Slices
+pub mod TokenLaws

@@ -1,4 +1,6 @@
 pub mod Marks
-pub mod Pieces
+pub mod Tokens
 pub mod Lines
+pub mod Pieces
 pub mod Views
+pub mod FaultText

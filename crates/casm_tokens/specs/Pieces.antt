@@ -1,5 +1,6 @@
--- How a line is cut into tokens: the longest one that begins at each place which the one before leaves.
-use Rattle.std.specs.Prelude.{ℕ, suc, zero, ◌+◌, ◌-◌, Bool, not, ◌&&◌, ◌||◌, ◌==◌, nat_lt, nat_eq, if◌then◌else◌, List, [], ◌∷◌, ◌++◌, length, take, Option, Some, None, codes}
+-- How a line is cut into tokens from the left on. An auditor needn't read this file: it says what Tokens says as a
+-- relation, which public contracts cite, and `token_laws` ties the two.
+use Rattle.std.specs.Prelude.{ℕ, suc, zero, ◌+◌, ◌-◌, Bool, not, ◌&&◌, nat_lt, nat_eq, if◌then◌else◌, List, [], ◌∷◌, ◌++◌, length, take, Option, Some, None, codes}
 use Rattle.std.specs.List.{list_all, prefix_len, starts_with}
 use Rattle.std.specs.Char.{is_ascii_digit, digit_value}
 use Rattle.goldilocks.specs.Field.{prime}
@@ -12,6 +13,7 @@ use Rattle.casm_tokens.specs.declared.fault.SyntaxKind.TheVariants as kind
 use Rattle.casm_tokens.specs.declared.marks.Symbol.{Symbol}
 use Rattle.casm_tokens.specs.declared.marks.Symbol.TheVariants.{Increment, AddTo, NotEqual, Open, Close, Plus, Minus, Times, Equal, Semicolon, Comma, Colon, Percent}
 use Rattle.casm_tokens.specs.Marks.{Mark, Sign, Keyword, Label, Number, Placed}
+use Rattle.casm_tokens.specs.Tokens.{is_blank, begins_comment}
 
 -- What stands at a place of a line. Own.
 pub data Piece : Type 0 where
@@ -23,14 +25,6 @@ pub data Piece : Type 0 where
   Cut : ℕ → Mark → Piece
   -- what is no token
   Bad : SyntaxKind → Piece
-
--- A space, a tab or a carriage return. Own.
-abbrev pub is_blank : ℕ → Bool
-is_blank b = (b == 32) || (b == 9) || (b == 13)
-
--- A comment begins here: `//` or `#`. Own.
-abbrev pub begins_comment : List ℕ → Bool
-begins_comment bs = starts_with nat_eq bs (codes "//") || starts_with nat_eq bs (codes "#")
 
 -- The sign that the bytes begin with, the longest one. Own.
 unfoldable pub sign_at : List ℕ → Option Symbol

@@ -1,7 +1,6 @@
--- What private parts of the scanner answer, seen without their borrows. No public contract rests on it.
-use Rattle.std.specs.Prelude.{ℕ, ◌<◌, ◌≤◌, Option, option_map}
-use Rattle.casm_tokens.specs.declared.fault.SyntaxKind.{SyntaxKind}
-use Rattle.casm_tokens.specs.declared.scanner.Stop.{Stop}
+-- What private parts of the scanner answer, seen without their borrows. An auditor needn't read this file: no public
+-- contract rests on it.
+use Rattle.std.specs.Prelude.{ℕ, ◌<◌, ◌≤◌}
 use Rattle.casm_tokens.specs.declared.pieces.Piece as rust
 use Rattle.casm_tokens.specs.declared.pieces.Piece.TheVariants as variant
 use Rattle.casm_tokens.specs.Marks.{mark_of}
@@ -20,7 +19,3 @@ IsWithin variant.Over len = Unit {0}
 IsWithin variant.Gap len = 0 < len
 IsWithin (variant.Cut found) len = (0 < found.len) × (found.len ≤ len)
 IsWithin (variant.Bad k) len = Unit {0}
-
--- A place where no token stands, as a pair. Own.
-abbrev pub stop_of : Option Stop → Option (ℕ × SyntaxKind)
-stop_of stop = option_map (λ s. (s.at, s.kind)) stop

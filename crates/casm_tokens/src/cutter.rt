@@ -1,9 +1,10 @@
 //! The tokens of a text.
 #![tactic(auto, unfolding(crate::specs::Marks::mark_of, crate::specs::Marks::placed_of, crate::specs::Lines::kind_of, crate::specs::Lines::token_at))]
 
-ghost use Rattle.std.specs.Prelude.{◌≡◌, ◌≤◌, ◌+◌, ◌++◌, length, map, IfOk, OnOk, IfErr, None};
+ghost use Rattle.std.specs.Prelude.{◌≡◌, ◌≤◌, ◌+◌, ◌++◌, length, map, IfOk, IfErr};
 ghost use Rattle.casm_tokens.specs.Marks.{mark_of, placed_of};
-ghost use Rattle.casm_tokens.specs.Lines.{kind_of, token_at, tokens_of, lexical_fault, Tells};
+ghost use Rattle.std.specs.List.{AllByRecursion};
+ghost use Rattle.casm_tokens.specs.Lines.{kind_of, token_at, HasTokens, AreInOrder, IsSliceOf, Tells};
 
 use crate::fault::{ParseFault, SyntaxKind};
 use crate::lines::split_line;
@@ -18,9 +19,10 @@ use std::alloc::{AllocError, Global};
 /// number has a bad or missing digit ([`SyntaxKind::Number`]) or is p or more ([`SyntaxKind::Range`]).
 pub fn tokens(alloc: Global, text: &[u8]) -> Result<Vec<Token>, ParseFault>
     requires { length text.now ≤ 16777216 }
-    ensures tokens { IfOk result (λ found. found.items ≡ tokens_of text.now) }
-    ensures whole { OnOk result (lexical_fault text.now ≡ None) }
-    ensures fault { IfErr result (λ fault. Tells fault (lexical_fault text.now)) }
+    ensures tokens { IfOk result (λ found. HasTokens text.now found.items) }
+    ensures order { IfOk result (λ found. AreInOrder 0 (length text.now) found.items) }
+    ensures slices { IfOk result (λ found. AllByRecursion (IsSliceOf text.now) found.items) }
+    ensures fault { IfErr result (λ fault. Tells fault text.now) }
 {
     let mut found = Vec::new(alloc);
     let mut lexemes = Vec::new(alloc);

@@ -3,6 +3,7 @@
 
 mod cutter;
 mod fault;
+mod laws;
 mod lines;
 mod marks;
 mod pieces;
@@ -11,6 +12,7 @@ mod spans;
 
 pub use cutter::{stop_fault, tokens};
 pub use fault::{ParseFault, SyntaxKind};
+pub use laws::token_laws;
 pub use lines::split_line;
 pub use marks::{Lexeme, MOST_BYTES, Mark, Symbol};
 pub use scanner::{Stop, scan_line};

@@ -1,10 +1,9 @@
 //! What a line goes on with.
-#![tactic(auto, unfolding(crate::specs::Marks::mark_of, crate::specs::Pieces::sign_at, crate::specs::Pieces::sign_len, crate::specs::Pieces::word_mark, crate::specs::Pieces::run_piece, crate::specs::Pieces::sign_piece, crate::specs::Pieces::piece_at))]
-
 ghost use Rattle.std.specs.Prelude.{◌≡◌, ◌<◌, ◌≤◌, length, IsTrue, IfSome};
 ghost use Rattle.std.specs.List.{prefix_len, list_all};
 ghost use Rattle.casm_statements.specs.Label.{is_word, is_word_byte, reserved_word};
-ghost use Rattle.casm_tokens.specs.Pieces.{is_blank, begins_comment, sign_at, sign_len, number_piece, word_mark, run_piece, piece_at, Cut};
+ghost use Rattle.casm_tokens.specs.Tokens.{is_blank, begins_comment};
+ghost use Rattle.casm_tokens.specs.Pieces.{sign_at, sign_len, number_piece, word_mark, run_piece, piece_at, Cut};
 ghost use Rattle.casm_tokens.specs.Views.{piece_of, IsWithin};
 
 use crate::fault::SyntaxKind;
@@ -35,6 +34,7 @@ pub(crate) enum Piece<'a> {
 }
 
 /// What the bytes begin with.
+#[tactic(auto, unfolding(crate::specs::Marks::mark_of, crate::specs::Pieces::sign_piece, crate::specs::Pieces::piece_at))]
 pub(crate) fn piece_at<'a>(bytes: &'a [u8]) -> Piece<'a>
     ensures value { piece_of result ≡ piece_at bytes.now }
     ensures within { IsWithin result (length bytes.now) }
@@ -86,6 +86,7 @@ fn run_len(bytes: &[u8]) -> usize
 }
 
 /// The token of a run of letters, digits and `_`.
+#[tactic(auto, unfolding(crate::specs::Pieces::run_piece))]
 fn run_piece<'a>(text: &'a [u8]) -> Piece<'a>
     requires { IsTrue (list_all is_word_byte text.now) }
     ensures value { piece_of result ≡ run_piece text.now }
@@ -102,6 +103,7 @@ fn run_piece<'a>(text: &'a [u8]) -> Piece<'a>
 }
 
 /// The token of a run that begins with a digit.
+#[tactic(auto, unfolding(crate::specs::Marks::mark_of))]
 fn number_piece<'a>(text: &'a [u8]) -> Piece<'a>
     ensures value { piece_of result ≡ number_piece text.now }
     ensures within { IsWithin result (length text.now) }
@@ -118,6 +120,7 @@ fn number_piece<'a>(text: &'a [u8]) -> Piece<'a>
 }
 
 /// The token of a run that begins with a letter or `_`.
+#[tactic(auto, unfolding(crate::specs::Marks::mark_of, crate::specs::Pieces::word_mark))]
 fn word_piece<'a>(text: &'a [u8]) -> Piece<'a>
     requires { IsTrue (is_word text.now) }
     ensures value { piece_of result ≡ Cut (length text.now) (word_mark (reserved_word text.now) text.now) }
@@ -136,6 +139,7 @@ fn word_piece<'a>(text: &'a [u8]) -> Piece<'a>
 }
 
 /// The sign that the bytes begin with, the longest one.
+#[tactic(auto, unfolding(crate::specs::Pieces::sign_at, crate::specs::Pieces::sign_len))]
 fn sign_at(bytes: &[u8]) -> Option<Symbol>
     ensures value { result ≡ sign_at bytes.now }
     ensures within { IfSome result (λ sign. sign_len sign ≤ length bytes.now) }
@@ -172,6 +176,7 @@ fn sign_at(bytes: &[u8]) -> Option<Symbol>
 }
 
 /// How many bytes a sign has.
+#[tactic(auto, unfolding(crate::specs::Pieces::sign_len))]
 fn sign_len(sign: Symbol) -> usize
     ensures value { result ≡ sign_len sign }
     ensures positive { 0 < result }

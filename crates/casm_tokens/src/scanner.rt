@@ -1,10 +1,9 @@
 //! The tokens of a line.
 #![tactic(auto, unfolding(crate::specs::Marks::placed_of))]
 
-ghost use Rattle.std.specs.Prelude.{◌≡◌, ◌+◌, ◌≤◌, length, map, IfOk, IfSome};
+ghost use Rattle.std.specs.Prelude.{◌≡◌, ◌+◌, ◌≤◌, length, map, IfOk, IfSome, MatchOption};
 ghost use Rattle.casm_tokens.specs.Marks.{placed_of};
-ghost use Rattle.casm_tokens.specs.Pieces.{scan};
-ghost use Rattle.casm_tokens.specs.Views.{stop_of};
+ghost use Rattle.casm_tokens.specs.Tokens.{CutsInto, StopsAt};
 
 use crate::fault::SyntaxKind;
 use crate::marks::Lexeme;
@@ -20,14 +19,15 @@ pub struct Stop {
     pub kind: SyntaxKind,
 }
 
-/// Puts the tokens of a line in the place of the lexemes, up to the first place where none stands, and answers that place.
+/// Puts the tokens of a line in the place of the lexemes, or answers the first place where none stands. Then, and where
+/// memory runs out, the lexemes may be any.
 pub fn scan_line<'a>(
     line: &'a [u8],
     lexemes: &mut Vec<Lexeme<'a>>,
 ) -> Result<Option<Stop>, AllocError>
     requires { length line.now ≤ 16777216 }
-    ensures tokens { IfOk result (λ _. map placed_of lexemes.new.items ≡ (scan line.now).placed) }
-    ensures stop { IfOk result (λ stop. stop_of stop ≡ (scan line.now).stop) }
+    ensures tokens { IfOk result (λ stop.
+        MatchOption stop (CutsInto line.now (map placed_of lexemes.new.items)) (λ s. StopsAt line.now s.at s.kind)) }
     ensures within { IfOk result (λ stop. IfSome stop (λ s. s.at ≤ length line.now)) }
 {
     lexemes.clear();

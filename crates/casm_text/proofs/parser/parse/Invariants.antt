@@ -1,5 +1,5 @@
 use Rattle.std.proofs.Common.{◌+◌, ◌≤◌, length}
-use Rattle.casm_tokens.specs.Lines.{lines}
+use Rattle.casm_tokens.proofs.LineLemmas.{lines}
 use Rattle.casm_text.proofs.Parses.{Parses}
 use Rattle.casm_text.proofs.parser.parse.Given as goal
 

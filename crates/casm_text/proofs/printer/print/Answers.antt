@@ -3,7 +3,7 @@ use Rattle.std.proofs.lemmas.List.{get_or_read, take_all}
 use Rattle.casm_statements.specs.declared.Item.{Item}
 use Rattle.casm_text.specs.Canonical.{printed}
 use Rattle.casm_text.specs.Meaning.{Means, bodies}
-use Rattle.casm_text.specs.Views.{IsBody}
+use Rattle.casm_text.specs.Bounds.{IsBody}
 use Rattle.casm_text.proofs.Prints.{printed-more}
 use Rattle.casm_text.proofs.ReadsBack.{printed-means}
 use Rattle.casm_text.proofs.printer.print.Goals as goal

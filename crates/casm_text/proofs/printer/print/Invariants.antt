@@ -1,7 +1,7 @@
 use Rattle.std.proofs.Common.{◌≡◌, ℕ, ◌<◌, take, get_or}
 use Rattle.casm_statements.specs.declared.Item.{Item}
 use Rattle.casm_text.specs.Canonical.{printed}
-use Rattle.casm_text.specs.Views.{IsBody}
+use Rattle.casm_text.specs.Bounds.{IsBody}
 use Rattle.casm_text.proofs.printer.print.Given as goal
 
 abbrev pub invariant-loop-item : goal.invariant-loop-item

@@ -1,7 +1,6 @@
-use Rattle.std.proofs.Common.{ap, sym, ◌∙◌, ◌++◌, map}
-use Rattle.casm_tokens.specs.Lines.{token_at}
-use Rattle.casm_tokens.specs.Views.{stop_of}
-use Rattle.casm_tokens.proofs.Cuts.{Cuts-none, Cuts-line, Cuts-last, Cuts-stop, first_line}
+use Rattle.casm_tokens.proofs.LineLemmas.{first_line, next_line, last_line}
+use Rattle.casm_tokens.proofs.Cuts.{Cuts-none, Cuts-line, Cuts-last, Cuts-stop}
+use Rattle.casm_tokens.proofs.Slices.{text_spans}
 use Rattle.casm_tokens.proofs.cutter.tokens.Goals as goal
 
 pub lines-init : goal.lines-init
@@ -10,23 +9,23 @@ lines-init c = rw c.new-found.ensures.items (Cuts-none c.args.text.now)
 -- no token stands at this place
 pub returns-in-Some-clause-fault : goal.returns-in-Some-clause-fault
 returns-in-Some-clause-fault c =
-    let f = first_line (λ r. r.now) c.lines.rest.now c.split_line.result.0.now c.split_line.result.1 c.split_line.ensures.last in
-    rw c.stop_fault.ensures (Cuts-stop _ _ _ _ _ _ f.0 _ _ c.lines.invariant f.1 (sym c.in_ok-stop.ensures.stop ∙ ap stop_of c.in-Some.is))
+    let f = first_line (λ r. r.now) c.lines.rest.now c.split_line.result.0.now c.split_line.result.1 c.split_line.ensures.rest c.split_line.ensures.line in
+    rw c.stop_fault.ensures (Cuts-stop _ _ _ _ _ _ f.0 _ _ c.lines.invariant f.1 (rw c.in-Some.is at c.in_ok-stop.ensures.tokens))
 
 -- the last line is cut
 pub returns-in_default-next-clause-tokens : goal.returns-in_default-next-clause-tokens
 returns-in_default-next-clause-tokens c =
-    let last = rw c.in_default-next.is at c.split_line.ensures.last in
-    (Cuts-last _ _ _ _ _ _ _ c.lines.invariant last (sym c.in_ok-stop.ensures.stop ∙ ap stop_of c.in_default.is) (c.in_ok-push_tokens.ensures ∙ ap (λ l. c.lines.found.items ++ map (token_at c.lines.line c.lines.start) l) c.in_ok-stop.ensures.tokens)).0
+    Cuts-last _ _ _ _ _ _ _ _ c.lines.invariant (last_line _ _ (rw c.in_default-next.is at c.split_line.ensures.rest) c.split_line.ensures.line) (rw c.in_default.is at c.in_ok-stop.ensures.tokens) c.in_ok-push_tokens.ensures
 
-pub returns-in_default-next-clause-whole : goal.returns-in_default-next-clause-whole
-returns-in_default-next-clause-whole c =
-    let last = rw c.in_default-next.is at c.split_line.ensures.last in
-    (Cuts-last _ _ _ _ _ _ _ c.lines.invariant last (sym c.in_ok-stop.ensures.stop ∙ ap stop_of c.in_default.is) (c.in_ok-push_tokens.ensures ∙ ap (λ l. c.lines.found.items ++ map (token_at c.lines.line c.lines.start) l) c.in_ok-stop.ensures.tokens)).1
+pub returns-in_default-next-clause-order : goal.returns-in_default-next-clause-order
+returns-in_default-next-clause-order c =
+    (text_spans _ _ (Cuts-last _ _ _ _ _ _ _ _ c.lines.invariant (last_line _ _ (rw c.in_default-next.is at c.split_line.ensures.rest) c.split_line.ensures.line) (rw c.in_default.is at c.in_ok-stop.ensures.tokens) c.in_ok-push_tokens.ensures)).order
+
+pub returns-in_default-next-clause-slices : goal.returns-in_default-next-clause-slices
+returns-in_default-next-clause-slices c =
+    (text_spans _ _ (Cuts-last _ _ _ _ _ _ _ _ c.lines.invariant (last_line _ _ (rw c.in_default-next.is at c.split_line.ensures.rest) c.split_line.ensures.line) (rw c.in_default.is at c.in_ok-stop.ensures.tokens) c.in_ok-push_tokens.ensures)).slices
 
 -- a line more is cut
 pub lines-preserved : goal.lines-preserved
 lines-preserved c =
-    let more = rw c.in-Some-next.is at c.split_line.ensures.last in
-    let len = rw c.in-Some-next.is at c.split_line.ensures.len in
-    Cuts-line _ _ _ _ _ _ _ _ c.lines.invariant more len (sym c.in_ok-stop.ensures.stop ∙ ap stop_of c.in_default.is) (c.in_ok-push_tokens.ensures ∙ ap (λ l. c.lines.found.items ++ map (token_at c.lines.line c.lines.start) l) c.in_ok-stop.ensures.tokens)
+    Cuts-line _ _ _ _ _ _ _ _ _ c.lines.invariant (next_line _ _ _ (rw c.in-Some-next.is at c.split_line.ensures.rest) c.split_line.ensures.line) (rw c.in-Some-next.is at c.split_line.ensures.len) (rw c.in_default.is at c.in_ok-stop.ensures.tokens) c.in_ok-push_tokens.ensures

@@ -2,21 +2,16 @@ use Rattle.std.proofs.Common.{ap, sym, ◌∙◌, map}
 use Rattle.std.proofs.lemmas.List.{map-append}
 use Rattle.casm_tokens.specs.Marks.{placed_of}
 use Rattle.casm_tokens.proofs.Scans.{Scans-gap, Scans-cut, Scans-over, Scans-bad}
+use Rattle.casm_tokens.proofs.Sound.{scan_cuts, scan_stops}
 use Rattle.casm_tokens.proofs.scanner.scan_line.Goals as goal
 
 -- the line or a comment ends it
 pub returns-in-Over-clause-tokens : goal.returns-in-Over-clause-tokens
-returns-in-Over-clause-tokens c = sym (ap (λ s. s.placed) (Scans-over _ _ _ _ c.pieces.invariant (sym c.in-Over.ensures.value)))
-
-pub returns-in-Over-clause-stop : goal.returns-in-Over-clause-stop
-returns-in-Over-clause-stop c = sym (ap (λ s. s.stop) (Scans-over _ _ _ _ c.pieces.invariant (sym c.in-Over.ensures.value)))
+returns-in-Over-clause-tokens c = scan_cuts _ _ (Scans-over _ _ _ _ c.pieces.invariant (sym c.in-Over.ensures.value))
 
 -- no token stands here
 pub returns-in-Bad-clause-tokens : goal.returns-in-Bad-clause-tokens
-returns-in-Bad-clause-tokens c = sym (ap (λ s. s.placed) (Scans-bad _ _ _ _ _ c.pieces.invariant (sym c.in-Bad.ensures.value)))
-
-pub returns-in-Bad-clause-stop : goal.returns-in-Bad-clause-stop
-returns-in-Bad-clause-stop c = sym (ap (λ s. s.stop) (Scans-bad _ _ _ _ _ c.pieces.invariant (sym c.in-Bad.ensures.value)))
+returns-in-Bad-clause-tokens c = scan_stops _ _ _ (ap (λ s. s.stop) (Scans-bad _ _ _ _ _ c.pieces.invariant (sym c.in-Bad.ensures.value)))
 
 -- a blank is passed over
 pub pieces-preserved-in-Gap : goal.pieces-preserved-in-Gap
