@@ -1,0 +1,241 @@
+-- What the bytes of a trace file spell, and what is wrong with others.
+use Rattle.std.proofs.Common.{◌≡◌, ◌≢◌, ◌⊎◌, inl, inr, ℕ, ◌+◌, ◌*◌, ◌<◌, ◌≤◌, ◌/◌, ◌%◌, Bool, nat_lt, cond, List, ◌∷◌, ◌++◌, length, take, drop, map, refl, sym, ap, ◌∙◌, append_assoc, arith, length-append, take-add, subst}
+use Rattle.std.proofs.lemmas.List.{drop-drop, length-map, take_all}
+use Rattle.casm_word.specs.declared.State.{State}
+use Rattle.casm_word.specs.Transition.{Registers, registers}
+use Rattle.std.proofs.Common.{true, false, Some, None, Ok, Err, Option, Result, MatchOption, MatchResult, []}
+use Rattle.std.proofs.Math.Seq.{take-length}
+use Rattle.std.proofs.lemmas.Bool.{and_from, and_parts, ltb-true, ltb-false, lt-ltb, le-ltb, leb-true, le-leb, leb-false, eqb-true, eqb-false, eq-eqb, and_cases, false_from_ne_true}
+use Rattle.std.specs.List.{flat_map, range_with_len, AllByRecursion}
+use Rattle.std.proofs.lemmas.List.FromFn.{length-map-range_with_len}
+use Rattle.goldilocks.specs.Field.{prime}
+use Rattle.trace_files.specs.declared.fault.FileFault.{FileFault}
+use Rattle.trace_files.specs.declared.fault.FileFault.TheVariants.{TooMany, Length, NotField, Order, Memory}
+use Rattle.trace_files.specs.FileNumbers.{number_bytes, number_at, AreNumbersBefore, IsFirstNotField, first_not_field}
+use Rattle.trace_files.specs.TraceFile.{trace_limit, state_bytes, state_at, IsState, states_in, trace_bytes, most_states, SpellsTrace, HasTraceLength, IsTraceFault, has_states, states_unless, trace_reading}
+use Rattle.trace_files.specs.Parts.{IsNumberFault}
+use Rattle.trace_files.proofs.Items.{IsLayout, length-spelled, spelled_back, found_again, AllByRecursion-map_range}
+use Rattle.trace_files.proofs.FileNumbers.{number_finds, numbers_stand, first_not_field-told, first_not_field-none, first_not_field-some}
+
+-- 24 bytes are three times eight
+thirds : {X : Type 0} (p : ℕ) (bytes : List X) → take 24 (drop p bytes) ≡ take 8 (drop p bytes) ++ take 8 (drop (p + 8) bytes) ++ take 8 (drop (p + 16) bytes)
+thirds p bytes =
+    take-add 16 8 (drop p bytes) ∙ rw (take-add 8 8 (drop p bytes), drop-drop, drop-drop) refl
+
+-- a state whose three numbers are of the field spells its bytes
+state_reads : (bytes : List ℕ) → AreNumbersBefore bytes (length bytes) → (i : ℕ) → 24 * i + 24 ≤ length bytes → state_bytes (state_at bytes i) ≡ take 24 (drop (24 * i) bytes)
+unfolding state_at
+state_reads bytes numbers i fits =
+    let ap_reads = sym (numbers (24 * i) (omega arith) (omega arith)).own in
+    let fp_reads = sym (numbers (24 * i + 8) (omega arith) (omega arith)).own in
+    let pc_reads = sym (numbers (24 * i + 16) (omega arith) (omega arith)).own in
+    ap (λ x. x ++ number_bytes (number_at bytes (24 * i + 8)) ++ number_bytes (number_at bytes (24 * i + 16))) ap_reads
+    ∙ ap (λ x. take 8 (drop (24 * i) bytes) ++ x ++ number_bytes (number_at bytes (24 * i + 16))) fp_reads
+    ∙ ap (λ x. take 8 (drop (24 * i) bytes) ++ take 8 (drop (24 * i + 8) bytes) ++ x) pc_reads
+    ∙ sym (thirds (24 * i) bytes)
+
+state_fits : (bytes : List ℕ) → AreNumbersBefore bytes (length bytes) → (i : ℕ) → 24 * i + 24 ≤ length bytes → IsState (state_at bytes i)
+unfolding state_at
+state_fits bytes numbers i fits = record {
+  pc = (numbers (24 * i + 16) (omega arith) (omega arith)).below;
+  ap = (numbers (24 * i) (omega arith) (omega arith)).below;
+  fp = (numbers (24 * i + 8) (omega arith) (omega arith)).below;
+}
+
+same_state : (s : Registers) (pc ap fp : ℕ) → pc ≡ s.pc → ap ≡ s.ap → fp ≡ s.fp → ◌≡◌ {A = Registers} (record { pc = pc; ap = ap; fp = fp }) s
+same_state s pc ap fp p a f = λ i. record { pc = p i; ap = a i; fp = f i }
+
+state_finds : (front : List ℕ) (s : Registers) (rest : List ℕ) (i : ℕ) → IsState s → length front ≡ 24 * i → state_at (front ++ (state_bytes s ++ rest)) i ≡ s
+unfolding state_at
+state_finds front s rest i fits at =
+    let ap_is : number_at (front ++ (state_bytes s ++ rest)) (24 * i) ≡ s.ap = number_finds front s.ap (number_bytes s.fp ++ (number_bytes s.pc ++ rest)) (24 * i) (omega (arith, fits.ap)) at in
+    let fp_is : number_at (front ++ (state_bytes s ++ rest)) (24 * i + 8) ≡ s.fp =
+    ap (λ bytes. number_at bytes (24 * i + 8)) (sym (append_assoc front (number_bytes s.ap) (number_bytes s.fp ++ (number_bytes s.pc ++ rest))))
+    ∙ number_finds (front ++ number_bytes s.ap) s.fp (number_bytes s.pc ++ rest) (24 * i + 8) (omega (arith, fits.fp)) (omega (arith, length-append front (number_bytes s.ap))) in
+    let pc_is : number_at (front ++ (state_bytes s ++ rest)) (24 * i + 16) ≡ s.pc =
+    ap (λ bytes. number_at bytes (24 * i + 16)) (sym (append_assoc front (number_bytes s.ap ++ number_bytes s.fp) (number_bytes s.pc ++ rest)))
+    ∙ number_finds (front ++ (number_bytes s.ap ++ number_bytes s.fp)) s.pc rest (24 * i + 16) (omega (arith, fits.pc)) (omega (arith, length-append front (number_bytes s.ap ++ number_bytes s.fp))) in
+    same_state s _ _ _ pc_is ap_is fp_is
+
+state_layout : IsLayout 24 state_at state_bytes IsState
+state_layout = record { width = λ s. refl; finds = state_finds }
+
+-- as many states as the bytes have places
+pub length-spelled_trace : (bytes : List ℕ) (states : List Registers) → SpellsTrace bytes states → length bytes ≡ 24 * length states
+length-spelled_trace bytes states spells = ap length spells.parts ∙ length-spelled 24 state_bytes (λ s. refl) states
+
+-- the states at their places are the ones that the bytes spell
+states_in-spelled : (bytes : List ℕ) (states : List Registers) → SpellsTrace bytes states → states_in bytes ≡ states
+unfolding states_in
+states_in-spelled bytes states spells =
+    let count : length bytes / 24 ≡ length states = omega (arith, length-spelled_trace bytes states spells) in
+    rw count (ap (λ b. map (state_at b) (range_with_len 0 (length states))) spells.parts ∙ found_again 24 state_at state_bytes IsState state_layout [] 0 states spells.numbers refl)
+
+-- bytes spell one trace at most
+pub trace_is_unique : (bytes : List ℕ) (s t : List Registers) → SpellsTrace bytes s → SpellsTrace bytes t → s ≡ t
+trace_is_unique bytes s t one other = sym (states_in-spelled bytes s one) ∙ states_in-spelled bytes t other
+
+length-states_in : (bytes : List ℕ) → length (states_in bytes) ≡ length bytes / 24
+unfolding states_in
+length-states_in bytes = length-map-range_with_len (state_at bytes) 0 (length bytes / 24)
+
+-- so many bytes, each eight of which are a number of the field, spell the states at their places
+pub SpellsTrace-from_numbers : (bytes : List ℕ) → HasTraceLength bytes → AreNumbersBefore bytes (length bytes) → SpellsTrace bytes (states_in bytes)
+unfolding states_in
+SpellsTrace-from_numbers bytes size numbers = record {
+  parts = sym (spelled_back 24 state_at state_bytes bytes (state_reads bytes numbers) 0 (length bytes / 24) (omega arith) ∙ (let all : 24 * (length bytes / 24) ≡ length bytes = omega (arith, size.whole) in rw all (take-length bytes)));
+  least = omega (arith, length-states_in bytes, size.least);
+  most = omega (arith, length-states_in bytes, size.most);
+  numbers = AllByRecursion-map_range IsState (state_at bytes) 0 (length bytes / 24) (λ i from within. state_fits bytes numbers i (omega arith));
+}
+
+-- the numbers of states, in the order in which they are written
+abbrev state_numbers : Registers → List ℕ
+state_numbers s = s.ap ∷ s.fp ∷ s.pc ∷ []
+
+trace_bytes-numbers : (states : List Registers) → trace_bytes states ≡ flat_map number_bytes (flat_map state_numbers states)
+trace_bytes-numbers [] = refl
+trace_bytes-numbers (s ∷ rest) =
+    append_assoc (number_bytes s.ap ++ number_bytes s.fp) (number_bytes s.pc) (trace_bytes rest)
+    ∙ append_assoc (number_bytes s.ap) (number_bytes s.fp) (number_bytes s.pc ++ trace_bytes rest)
+    ∙ ap (λ bytes. number_bytes s.ap ++ (number_bytes s.fp ++ (number_bytes s.pc ++ bytes))) (trace_bytes-numbers rest)
+
+state_numbers-fit : (states : List Registers) → AllByRecursion IsState states → AllByRecursion (λ n. n < prime) (flat_map state_numbers states)
+state_numbers-fit [] fit = tt
+state_numbers-fit (s ∷ rest) fit = (fit.0.ap, (fit.0.fp, (fit.0.pc, state_numbers-fit rest fit.1)))
+
+-- the numbers of bytes that spell states are of the field
+numbers_of_spelled : (bytes : List ℕ) (states : List Registers) → SpellsTrace bytes states → AreNumbersBefore bytes (length bytes)
+numbers_of_spelled bytes states spells =
+    subst (λ b. AreNumbersBefore b (length b)) (sym (spells.parts ∙ trace_bytes-numbers states))
+    (numbers_stand (flat_map state_numbers states) (state_numbers-fit states spells.numbers))
+
+has_states-true : (size : ℕ) → size % 24 ≡ 0 → 48 ≤ size → has_states size ≡ true
+has_states-true size whole least = and_from _ _ (eq-eqb _ _ whole) (le-leb _ _ least)
+
+has_states-false : (size : ℕ) → (size % 24 ≢ 0) ⊎ (size < 48) → has_states size ≡ false
+has_states-false size wrong = false_from_ne_true _ (λ (holds : has_states size ≡ true).
+    let both = and_parts _ _ holds in
+    elim wrong [
+      | inl ragged ↦ ragged (eqb-true _ _ both.0)
+      | inr few ↦ absurd (omega (arith, leb-true 48 size both.1))
+    ])
+
+-- bytes that spell states are read as these
+pub trace_reading-spelled : (bytes : List ℕ) (states : List Registers) → SpellsTrace bytes states → trace_reading bytes ≡ Ok states
+unfolding trace_reading
+trace_reading-spelled bytes states spells =
+    let size = length-spelled_trace bytes states spells in
+    let short = le-ltb trace_limit (length bytes) (omega (arith, spells.most)) in
+    let whole = has_states-true (length bytes) (omega arith) (omega (arith, spells.least)) in
+    let numbers = first_not_field-none bytes (omega arith) (numbers_of_spelled bytes states spells) in
+    rw (short, whole, numbers, states_in-spelled bytes states spells) refl
+
+-- bytes with a fault are read as this fault
+pub trace_reading-fault : (bytes : List ℕ) (fault : FileFault) → IsTraceFault bytes fault → trace_reading bytes ≡ Err fault
+unfolding trace_reading
+trace_reading-fault bytes TooMany is = rw (lt-ltb trace_limit (length bytes) is) refl
+trace_reading-fault bytes Length is =
+    rw (le-ltb trace_limit (length bytes) is.0, has_states-false (length bytes) is.1) refl
+trace_reading-fault bytes (NotField place) is =
+    let short = le-ltb trace_limit (length bytes) is.0.most in
+    let whole = has_states-true (length bytes) is.0.whole is.0.least in
+    let first = first_not_field-some bytes (omega (arith, is.0.whole)) place is.1 in
+    rw (short, whole, first) refl
+trace_reading-fault bytes (Order place) is = absurd is
+trace_reading-fault bytes Memory is = absurd is
+
+-- what the bytes are read as is what they spell, or their fault
+abbrev TellsTrace : List ℕ → Result (List Registers) FileFault → Type 0
+TellsTrace bytes reading = MatchResult reading (SpellsTrace bytes) (IsTraceFault bytes)
+
+told_numbers : (bytes : List ℕ) → HasTraceLength bytes → (o : Option ℕ) → MatchOption o (AreNumbersBefore bytes (length bytes)) (IsFirstNotField bytes) → TellsTrace bytes (states_unless o (states_in bytes))
+told_numbers bytes size None numbers = SpellsTrace-from_numbers bytes size numbers
+told_numbers bytes size (Some place) first = (size, first)
+
+ragged_or_few : (size : ℕ) → has_states size ≡ false → (size % 24 ≢ 0) ⊎ (size < 48)
+ragged_or_few size fails =
+    elim (and_cases _ _ fails) [
+      | inl ragged ↦ inl (eqb-false _ _ ragged)
+      | inr few ↦ inr (leb-false 48 size few)
+    ]
+
+told_length : (bytes : List ℕ) → length bytes ≤ trace_limit → (whole : Bool) → has_states (length bytes) ≡ whole → TellsTrace bytes (cond whole (states_unless (first_not_field bytes) (states_in bytes)) (Err Length))
+told_length bytes short true is =
+    let both = and_parts _ _ is in
+    let size : HasTraceLength bytes = record { least = leb-true 48 (length bytes) both.1; most = short; whole = eqb-true _ _ both.0 } in
+    told_numbers bytes size (first_not_field bytes) (first_not_field-told bytes (omega (arith, size.whole)))
+told_length bytes short false is = (short, ragged_or_few (length bytes) is)
+
+told_limit : (bytes : List ℕ) (over : Bool) → nat_lt trace_limit (length bytes) ≡ over → TellsTrace bytes (cond over (Err TooMany) (cond (has_states (length bytes)) (states_unless (first_not_field bytes) (states_in bytes)) (Err Length)))
+told_limit bytes true is = ltb-true trace_limit (length bytes) is
+told_limit bytes false is = told_length bytes (ltb-false trace_limit (length bytes) is) (has_states (length bytes)) refl
+
+pub trace_reading-told : (bytes : List ℕ) → TellsTrace bytes (trace_reading bytes)
+unfolding trace_reading
+trace_reading-told bytes = told_limit bytes (nat_lt trace_limit (length bytes)) refl
+
+pub SpellsTrace-from_reading : (bytes : List ℕ) (states : List Registers) → trace_reading bytes ≡ Ok states → SpellsTrace bytes states
+SpellsTrace-from_reading bytes states read = subst (TellsTrace bytes) read (trace_reading-told bytes)
+
+pub IsTraceFault-from_reading : (bytes : List ℕ) (fault : FileFault) → trace_reading bytes ≡ Err fault → IsTraceFault bytes fault
+IsTraceFault-from_reading bytes fault read = subst (TellsTrace bytes) read (trace_reading-told bytes)
+
+-- bytes that spell states have no fault
+pub trace_has_no_fault : (bytes : List ℕ) (states : List Registers) (fault : FileFault) → SpellsTrace bytes states → IsTraceFault bytes fault → ⊥
+trace_has_no_fault bytes states fault spells is =
+    let both : ◌≡◌ {A = Result (List Registers) FileFault} (Ok states) (Err fault) = sym (trace_reading-spelled bytes states spells) ∙ trace_reading-fault bytes fault is in
+    cc
+
+-- what the reader of a trace tells
+abbrev pub TraceRead : {V : Type 0} → (V → List Registers) → List ℕ → Result V FileFault → Type 0
+TraceRead view bytes r = MatchResult r (λ v. SpellsTrace bytes (view v)) (λ fault. fault ≢ Memory → IsTraceFault bytes fault)
+
+-- where bytes spell states, a reader can only answer these or want of memory
+pub trace_read_all : {V : Type 0} (view : V → List Registers) (bytes : List ℕ) (r : Result V FileFault) → TraceRead view bytes r → (states : List Registers) → SpellsTrace bytes states → MatchResult r (λ v. view v ≡ states) (λ fault. fault ≡ Memory)
+trace_read_all view bytes (Ok v) told states spells = trace_is_unique bytes (view v) states told spells
+trace_read_all view bytes (Err TooMany) told states spells = absurd (trace_has_no_fault bytes states TooMany spells (told (λ e. cc)))
+trace_read_all view bytes (Err Length) told states spells = absurd (trace_has_no_fault bytes states Length spells (told (λ e. cc)))
+trace_read_all view bytes (Err (NotField place)) told states spells = absurd (trace_has_no_fault bytes states (NotField place) spells (told (λ e. cc)))
+trace_read_all view bytes (Err (Order place)) told states spells = absurd (told (λ e. cc))
+trace_read_all view bytes (Err Memory) told states spells = refl
+
+-- what the reader of a trace tells is what the bytes are read as, unless memory runs out
+pub trace_read_reading : {V : Type 0} (view : V → List Registers) (bytes : List ℕ) (r : Result V FileFault) → TraceRead view bytes r → MatchResult r (λ v. trace_reading bytes ≡ Ok (view v)) (λ fault. fault ≢ Memory → trace_reading bytes ≡ Err fault)
+trace_read_reading view bytes (Ok v) told = trace_reading-spelled bytes (view v) told
+trace_read_reading view bytes (Err fault) told = λ other. trace_reading-fault bytes fault (told other)
+
+-- the fault of a state is that of the trace
+pub trace_fault : (bytes : List ℕ) (from to : ℕ) (fault : FileFault) → HasTraceLength bytes → IsNumberFault bytes from to fault → IsTraceFault bytes fault
+trace_fault bytes from to fault size is = subst (IsTraceFault bytes) (sym is.told) (size, is.first)
+
+-- the registers of the code's states are numbers of the field
+pub states_fit : (states : List State) → AllByRecursion IsState (map registers states)
+unfolding registers
+states_fit [] = tt
+states_fit (s ∷ rest) = (record { pc = s.pc.in_field; ap = s.ap.in_field; fp = s.fp.in_field }, states_fit rest)
+
+-- written states are spelled
+pub SpellsTrace-written : (states : List Registers) → 2 ≤ length states → length states ≤ most_states → AllByRecursion IsState states → SpellsTrace (trace_bytes states) states
+SpellsTrace-written states least most fit = record { parts = refl; least = least; most = most; numbers = fit }
+
+-- the first states of the bytes were read
+pub record HasReadStates (bytes : List ℕ) (i : ℕ) (states : List State) : Type 0 where
+  pub read : map registers states ≡ map (state_at bytes) (range_with_len 0 i)
+  pub numbers : AreNumbersBefore bytes (24 * i)
+
+-- all states of the bytes were read
+pub SpellsTrace-from_all_read : (bytes : List ℕ) (i : ℕ) (states : List State) → HasTraceLength bytes → HasReadStates bytes i states → i ≡ length bytes / 24 → SpellsTrace bytes (map registers states)
+unfolding states_in
+SpellsTrace-from_all_read bytes i states size has all =
+    let end : 24 * i ≡ length bytes = omega (arith, size.whole) in
+    let same : map registers states ≡ states_in bytes = has.read ∙ ap (λ n. map (state_at bytes) (range_with_len 0 n)) all in
+    subst (SpellsTrace bytes) (sym same) (SpellsTrace-from_numbers bytes size (subst (AreNumbersBefore bytes) end has.numbers))
+
+-- all states were written
+pub SpellsTrace-from_all_written : (states : List State) (bytes : List ℕ) (i : ℕ) → bytes ≡ trace_bytes (map registers (take i states)) → length states ≤ i → 2 ≤ length states → length states ≤ most_states → SpellsTrace bytes (map registers states)
+SpellsTrace-from_all_written states bytes i written all least most =
+    let size : length (map registers states) ≡ length states = simp (length-map) refl in
+    let whole : trace_bytes (map registers states) ≡ bytes = sym (written ∙ ap (λ taken. trace_bytes (map registers taken)) (take_all i states all)) in
+    subst (λ b. SpellsTrace b (map registers states)) whole
+    (SpellsTrace-written (map registers states) (omega arith) (omega arith) (states_fit states))
