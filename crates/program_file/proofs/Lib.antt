@@ -1,0 +1,5 @@
+pub mod Entries
+pub mod Lines
+pub mod BuiltinLists
+pub mod Spelling
+pub mod WrittenPrograms

@@ -1,0 +1,9 @@
+pub mod Listing
+pub mod Shown
+pub mod Format
+pub mod Reading
+pub mod Parts
+pub use Rattle.json_fields.specs.Values
+pub use Rattle.json_fields.specs.FieldTexts
+pub use Rattle.json_fields.specs.Faults
+pub use Rattle.json_fields.specs.Encoding

@@ -1,0 +1,173 @@
+//! Reading a program file.
+
+ghost use Rattle.std.specs.Prelude.{◌≡◌, ◌≢◌, ◌≤◌, ◌^◌, [], Ok, Err, IfOk, IfErr, map, length};
+ghost use Rattle.serde_json.specs.View.{view};
+ghost use Rattle.serde_json.specs.Find.{as_str};
+ghost use Rattle.json_fields.specs.Faults.{in_turn};
+ghost use Rattle.program_file.specs.Listing.{Listing, listing};
+ghost use Rattle.program_file.specs.Format.{Spells};
+ghost use Rattle.program_file.specs.Reading.{reading, word_in, is_same_text};
+ghost use Rattle.program_file.specs.Reading as lines;
+ghost use Rattle.program_file.specs.Parts.{prime_part, words_part, builtins_part, bounds_part, value_part};
+ghost use Rattle.program_file.specs.declared.faults.ProgramFault.{ProgramFault};
+
+use crate::{Builtins, Program, ProgramFault, ProgramKey, WORD_LIMIT};
+use goldilocks::Felt;
+use json_fields::{felt_in, list_at, read_json, text_at, whole_at};
+use serde_json::Value;
+use std::alloc::{AllocError, Global};
+
+/// The order of the field, as a file has it.
+pub(crate) const PRIME_TEXT: &str = "0xffffffff00000001";
+
+/// The program that the bytes of a file are.
+///
+/// Else it is the first fault: [`ProgramFault::Json`], then those of `prime`, `data`, `start`, `end` and `builtins`, then
+/// [`ProgramFault::Label`] of the start and of the end. Of equal keys the last one counts, and other keys are passed over.
+pub fn read(alloc: Global, bytes: &[u8]) -> Result<Program, ProgramFault>
+    ensures program { IfOk result (λ p. reading bytes.now ≡ Ok (listing p)) }
+    ensures fault { IfErr result (λ f. f ≢ ProgramFault.Memory → reading bytes.now ≡ Err f) }
+
+    // So the bytes are that program, and where there is a fault they are none.
+    ensures spells { IfOk result (λ p. Spells bytes.now (listing p)) }
+    ensures spells_nothing { IfErr result (λ f. f ≢ ProgramFault.Memory → (p : Listing) → ¬ Spells bytes.now p) }
+{
+    let Some(top) = read_json(alloc, bytes)? else {
+        return Err(ProgramFault::Json);
+    };
+    read_value(alloc, &top)
+}
+
+/// The program that a JSON value is, or its first fault.
+#[tactic(auto, unfolding(crate::specs::Parts::value_part, json_fields::specs::Faults::needed, json_fields::specs::Faults::demand))]
+fn read_value(alloc: Global, top: &Value) -> Result<Program, ProgramFault>
+    ensures program { IfOk result (λ p. value_part (view top.now) ≡ Ok (listing p)) }
+    ensures fault { IfErr result (λ f. f ≢ ProgramFault.Memory → value_part (view top.now) ≡ Err f) }
+{
+    read_prime(top)?;
+    let words = read_words(alloc, top)?;
+    let Some(start) = whole_at(top, "start") else {
+        return Err(ProgramFault::Key(ProgramKey::Start));
+    };
+    let Some(end) = whole_at(top, "end") else {
+        return Err(ProgramFault::Key(ProgramKey::End));
+    };
+    let builtins = read_builtins(top)?;
+    bounded(words, start, end, builtins)
+}
+
+/// Whether the order of the field is there.
+#[tactic(auto, unfolding(crate::specs::Parts::prime_part, json_fields::specs::Faults::needed, json_fields::specs::Faults::demand))]
+fn read_prime(top: &Value) -> Result<(), ProgramFault>
+    ensures { result ≡ prime_part (view top.now) }
+{
+    let Some(prime) = text_at(top, "prime") else {
+        return Err(ProgramFault::Key(ProgramKey::Prime));
+    };
+    if prime == PRIME_TEXT {
+        Ok(())
+    } else {
+        Err(ProgramFault::Prime)
+    }
+}
+
+/// The words, at most [`WORD_LIMIT`] of them.
+#[tactic(auto, unfolding(crate::specs::Parts::words_part, json_fields::specs::Faults::needed, json_fields::specs::Faults::demand))]
+fn read_words(alloc: Global, top: &Value) -> Result<Vec<Felt>, ProgramFault>
+    ensures words { IfOk result (λ words. words_part (view top.now) ≡ Ok words.items) }
+    ensures few { IfOk result (λ words. length words.items ≤ 2 ^ 18) }
+    ensures fault { IfErr result (λ f. f ≢ ProgramFault.Memory → words_part (view top.now) ≡ Err f) }
+{
+    let Some(texts) = list_at(top, "data") else {
+        return Err(ProgramFault::Key(ProgramKey::Words));
+    };
+    if texts.len() > WORD_LIMIT {
+        return Err(ProgramFault::TooLong);
+    }
+    read_entries(alloc, texts)
+}
+
+/// The words of these entries.
+fn read_entries(alloc: Global, texts: &[Value]) -> Result<Vec<Felt>, ProgramFault>
+    requires { length texts.now ≤ 2 ^ 18 }
+    ensures words { IfOk result (λ words. in_turn word_in [] (map view texts.now) ≡ Ok words.items) }
+    ensures count { IfOk result (λ words. length words.items ≡ length texts.now) }
+    ensures fault { IfErr result (λ f. f ≢ ProgramFault.Memory → in_turn word_in [] (map view texts.now) ≡ Err f) }
+{
+    let mut words = Vec::with_capacity(alloc, texts.len())?;
+    for (index, text) in texts.iter().enumerate() {
+        let Some(word) = felt_in(text) else {
+            return Err(ProgramFault::Felt(index as u32));
+        };
+        words.push(word).map_err(AllocError::from)?;
+    }
+    Ok(words)
+}
+
+/// The builtins.
+#[tactic(auto, unfolding(crate::specs::Parts::builtins_part, json_fields::specs::Faults::needed, json_fields::specs::Faults::demand))]
+fn read_builtins(top: &Value) -> Result<Builtins, ProgramFault>
+    ensures { result ≡ builtins_part (view top.now) }
+{
+    let Some(names) = list_at(top, "builtins") else {
+        return Err(ProgramFault::Key(ProgramKey::Builtins));
+    };
+    match builtins_in(names) {
+        Some(builtins) => Ok(builtins),
+        None => Err(ProgramFault::Builtin),
+    }
+}
+
+/// The builtins whose names these are, in their order.
+#[tactic(auto, unfolding(crate::specs::Reading::builtins_in))]
+fn builtins_in(names: &[Value]) -> Option<Builtins>
+    ensures { result ≡ lines.builtins_in (map view names.now) }
+{
+    let (output, range) = match names {
+        [] => (false, false),
+        [only] if is_text(only, "output") => (true, false),
+        [only] if is_text(only, "range_check") => (false, true),
+        [first, second] if is_text(first, "output") && is_text(second, "range_check") => {
+            (true, true)
+        }
+        _ => return None,
+    };
+    Some(Builtins { output, range })
+}
+
+/// Whether the value is this text.
+fn is_text(value: &Value, text: &str) -> bool
+    ensures { result ≡ is_same_text text.now (as_str (view value.now)) }
+{
+    match value.as_str() {
+        Some(found) => found == text,
+        None => false,
+    }
+}
+
+/// The program, where it starts and ends at words of its own.
+#[tactic(auto, unfolding(crate::specs::Parts::bounds_part, json_fields::specs::Faults::needed, json_fields::specs::Faults::demand))]
+fn bounded(
+    words: Vec<Felt>,
+    start: u64,
+    end: u64,
+    builtins: Builtins,
+) -> Result<Program, ProgramFault>
+    requires { length words.items ≤ 2 ^ 18 }
+    ensures program { IfOk result (λ p. bounds_part words.items start end builtins ≡ Ok (listing p)) }
+    ensures fault { IfErr result (λ f. bounds_part words.items start end builtins ≡ Err f) }
+{
+    let count = words.len() as u64;
+    if start >= count {
+        return Err(ProgramFault::Label(ProgramKey::Start));
+    }
+    if end >= count {
+        return Err(ProgramFault::Label(ProgramKey::End));
+    }
+    Ok(Program {
+        words,
+        start: start as u32,
+        end: end as u32,
+        builtins,
+    })
+}

@@ -1,0 +1,5 @@
+mod Ascending
+mod Cells
+mod Tokens
+pub mod Spellings
+pub mod ReadsBack

@@ -1,0 +1,11 @@
+pub mod Statement
+pub mod Valid
+pub mod Shown
+pub mod Spelling
+pub mod Reading
+pub mod Written
+pub mod Parts
+pub use Rattle.json_fields.specs.FieldTexts
+pub use Rattle.json_fields.specs.Values
+pub use Rattle.json_fields.specs.Faults
+pub use Rattle.json_fields.specs.Encoding
