@@ -1,0 +1,13 @@
+pub mod DefinedWords
+pub mod Begins
+pub mod ShownLemmas
+pub mod AssemblyLemmas
+pub mod Statements
+pub mod Repeats
+pub mod Unknowns
+pub mod FirstFaults
+pub mod Outcomes
+pub mod Restored
+pub mod NameTexts
+pub mod Lines
+pub mod TextSizes

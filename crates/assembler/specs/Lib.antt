@@ -1,0 +1,13 @@
+pub mod StatementWords
+pub mod Shown
+pub mod Assembly
+pub mod Faults
+pub mod Assembling
+pub mod FaultText
+pub mod Disassembly
+pub mod Views
+pub use Rattle.casm_statements.specs.Felts
+pub use Rattle.casm_statements.specs.Label
+pub use Rattle.casm_statements.specs.Words
+pub use Rattle.casm_text.specs.Canonical
+pub use Rattle.casm_text.specs.Meaning

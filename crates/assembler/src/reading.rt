@@ -1,0 +1,44 @@
+//! The statement that words begin with.
+#![tactic(auto)]
+
+ghost use Rattle.std.specs.Prelude.{◌≡◌, [], ◌++◌, true, is_some, MatchOption};
+ghost use Rattle.std.specs.Option.{option_to_list};
+ghost use Rattle.assembler.specs.StatementWords.{BeginsWith, BeginsWithNone};
+
+use casm_text::{Stmt, of_word};
+use casm_word::{Word, decode};
+use goldilocks::Felt;
+
+/// The statement whose words stand first, and the words behind them.
+pub(crate) fn first_statement(words: &[Felt]) -> Option<(Stmt, &[Felt])>
+    ensures { MatchOption result (BeginsWithNone words.now) (λ p. BeginsWith words.now p.0 p.1.now) }
+{
+    let Some((first, rest)) = words.split_first() else {
+        return None;
+    };
+    let Ok(word) = decode(first.number) else {
+        return None;
+    };
+    let Some((immediate, others)) = split_immediate(&word, rest) else {
+        return None;
+    };
+    match of_word(&word, immediate) {
+        Some(stmt) => Some((stmt, others)),
+        None => None,
+    }
+}
+
+/// The immediate of an instruction word, if it has one, and the words behind it; `None` where it is missing.
+fn split_immediate<'a>(word: &Word, rest: &'a [Felt]) -> Option<(Option<Felt>, &'a [Felt])>
+    ensures { MatchOption result
+        ((word.now.flags.op1_imm ≡ true) × (rest.now ≡ []))
+        (λ p. (is_some p.0 ≡ word.now.flags.op1_imm) × (rest.now ≡ option_to_list p.0 ++ p.1.now)) }
+{
+    if !word.flags.op1_imm {
+        return Some((None, rest));
+    }
+    match rest.split_first() {
+        Some((value, others)) => Some((Some(*value), others)),
+        None => None,
+    }
+}
