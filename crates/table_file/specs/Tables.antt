@@ -1,0 +1,57 @@
+-- What tables hold, and how many of each there may be.
+use Rattle.std.specs.Prelude.{ℕ, ◌≡◌, ◌+◌, ◌*◌, ◌^◌, ◌≤◌, List, length}
+use Rattle.goldilocks.specs.declared.Felt.{Felt}
+use Rattle.goldilocks.specs.declared.Pair.{Pair}
+use Rattle.casm_word.specs.declared.State.{State}
+use Rattle.cpu_rows.specs.declared.Row.{Row}
+use Rattle.range_columns.specs.declared.RangeRow.{RangeRow}
+use Rattle.table_file.specs.declared.Tables.{Tables}
+
+-- What tables hold: the rows, the state after the last one, the range rows, the memory fillers, the sorted pairs, the
+-- range fillers and the sorted range values. Own.
+pub record Contents : Type 0 where
+  pub rows : List Row
+  pub last : State
+  pub range : List RangeRow
+  pub fillers : List Pair
+  pub pairs : List Pair
+  pub range_fillers : List Felt
+  pub sorted_range : List Felt
+
+-- The lists that the tables of the code hold. Own.
+abbrev pub contents : Tables → Contents
+contents t = record {
+  rows = t.rows.items;
+  last = t.last;
+  range = t.range.items;
+  fillers = t.memory.fill.items;
+  pairs = t.memory.sorted.items;
+  range_fillers = t.small.fill.items;
+  sorted_range = t.small.sorted.items;
+}
+
+-- The most rows, range rows, memory fillers, sorted pairs and range fillers. Own.
+abbrev pub most_rows : ℕ
+most_rows = 2 ^ 20
+
+abbrev pub most_range_rows : ℕ
+most_range_rows = 2 ^ 18
+
+abbrev pub most_fillers : ℕ
+most_fillers = 2 ^ 21
+
+abbrev pub most_pairs : ℕ
+most_pairs = 7077888
+
+abbrev pub most_range_fillers : ℕ
+most_range_fillers = 65536
+
+-- Tables that a file may hold: no list is above its limit, and there is a sorted range value for each offset of a row,
+-- for each limb of a range row and for each range filler. Own.
+pub record AreValid (t : Contents) : Type 0 where
+  pub row_count : length t.rows ≤ most_rows
+  pub range_row_count : length t.range ≤ most_range_rows
+  pub filler_count : length t.fillers ≤ most_fillers
+  pub pair_count : length t.pairs ≤ most_pairs
+  pub range_filler_count : length t.range_fillers ≤ most_range_fillers
+  pub sorted_range_count : length t.sorted_range ≡ 3 * length t.rows + 3 * length t.range + length t.range_fillers
