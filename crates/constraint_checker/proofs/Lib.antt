@@ -1,0 +1,8 @@
+pub mod Verdicts
+pub mod EachItem
+pub mod Groups
+pub mod Edges
+pub mod Acceptances
+pub mod CellLists
+pub mod RowSteps
+pub mod Descriptions

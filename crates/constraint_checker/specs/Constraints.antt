@@ -1,0 +1,138 @@
+-- Every written constraint on the tables of a run, its program and its public input. "The whitepaper" is Cairo's, ePrint
+-- 2021/1063.
+use Rattle.std.specs.Prelude.{ℕ, ◌≡◌, ◌+◌, ◌-◌, Bool, ◌==◌, List, [], ◌∷◌, ◌++◌, map, length, drop, Option, is_none, unwrap_or, slice_index_or, All}
+use Rattle.std.specs.List.{flat_map, enumerate_from, zip}
+use Rattle.goldilocks.specs.declared.Felt.{Felt}
+use Rattle.goldilocks.specs.declared.Pair.{Pair}
+use Rattle.casm_word.specs.Transition.{Registers, registers}
+use Rattle.cpu_rows.specs.Columns.{Columns, columns}
+use Rattle.cpu_rows.specs.Equations.{equations, holds, Meets}
+use Rattle.cpu_rows.specs.Table.{states_of, with_next}
+use Rattle.sorted_lists.specs.Order.{in_order}
+use Rattle.sorted_lists.specs.Difference.{list_difference}
+use Rattle.sorted_lists.specs.Climbing.{climb}
+use Rattle.memory_columns.specs.Equations.{pair_cmp, is_same_pair, m1, m2, M1, M2, M3}
+use Rattle.range_columns.specs.Limbs.{joined_limbs, V1}
+use Rattle.range_columns.specs.Equations.{felt_cmp, is_same_felt, is_number, first_number, last_number, Q1, Q2, Q3, Q4}
+use Rattle.program_file.specs.Listing.{Listing}
+use Rattle.public_input.specs.Statement.{Statement}
+use Rattle.table_file.specs.Tables.{Contents}
+use Rattle.constraint_checker.specs.declared.Constraint.{Constraint}
+use Rattle.constraint_checker.specs.declared.Constraint.TheVariants.{P, C, V, M, Q}
+use Rattle.constraint_checker.specs.Lists.{accesses, range_values}
+
+-- ---- what the constraints speak of
+
+-- Each row as numbers, with the state that follows it: that of the next row, and for the last row the last state. The
+-- whitepaper's columns of the trace.
+abbrev pub rows_with_next : Contents → List (Columns × Registers)
+rows_with_next tables = with_next (map columns tables.rows) (registers tables.last)
+
+-- The states of the rows, and the last state behind them. The whitepaper's register columns.
+abbrev pub states : Contents → List Registers
+states tables = states_of (map columns tables.rows) (registers tables.last)
+
+-- The first state: that of the first row. Without rows it is the last state. The whitepaper's register columns.
+abbrev pub first_state : Contents → Registers
+first_state tables = slice_index_or (states tables) 0 (registers tables.last)
+
+-- The last state, behind all rows. The whitepaper's register columns.
+abbrev pub last_state : Contents → Registers
+last_state tables = registers tables.last
+
+-- ---- the constraints one after another
+
+-- A written constraint at one place of the tables: its name, the row that its failure is told at, and whether it holds.
+-- Own.
+pub record Condition : Type 0 where
+  pub constraint : Constraint
+  pub row : ℕ
+  pub holds : Bool
+
+-- A condition by its parts. Own.
+abbrev pub condition : Constraint → ℕ → Bool → Condition
+condition constraint row holds = record { constraint = constraint; row = row; holds = holds }
+
+-- That two lists are one. They are given by the first place at which they differ, where there is one. Own.
+abbrev pub are_one : Constraint → Option ℕ → Condition
+are_one constraint difference = condition constraint (unwrap_or difference 0) (is_none difference)
+
+-- What is asked of each item of a list and its place, one item after another. Own.
+abbrev pub at_each : {X : Type 0} → List X → (ℕ → X → List Condition) → List Condition
+at_each items asked = flat_map (λ at. asked at.0 at.1) (enumerate_from 0 items)
+
+-- Each item with the one after it. Own.
+abbrev pub neighbours : {X : Type 0} → List X → List (X × X)
+neighbours items = zip items (drop 1 items)
+
+-- The first place at which accesses and sorted pairs, each put in order, differ, or the length of the shorter list. Own.
+abbrev pub pair_difference : List Pair → List Pair → Option ℕ
+pair_difference found sorted = list_difference is_same_pair (in_order pair_cmp found) (in_order pair_cmp sorted)
+
+-- The same of values of the range check and sorted ones. Own.
+abbrev pub value_difference : List Felt → List Felt → Option ℕ
+value_difference found sorted = list_difference is_same_felt (in_order felt_cmp found) (in_order felt_cmp sorted)
+
+-- All written constraints in their order. C1 to C39 are asked of each row and the state after it, and V1 of each range
+-- row. M1 and M2 are asked of each sorted pair and the next, Q2 of each sorted range value and the next. The
+-- whitepaper's constraints of the Cairo machine, of its memory and of its range checks; C32 to C39, V1, M3 and Q4 are
+-- own.
+unfoldable pub conditions : Listing → Statement → Contents → List Condition
+conditions program public tables =
+    let pairs = tables.pairs in
+    let values = tables.sorted_range in
+    let first = first_state tables in
+    let last = last_state tables in
+    let steps = length tables.rows in
+    (condition (P 1) 0 (steps == public.steps)
+    ∷ condition (P 2) 0 (length tables.range == public.range_count)
+    ∷ condition (P 3) 0 (first.pc == 1 + program.start)
+    ∷ condition (P 4) 0 (first.ap == public.ap_first.number)
+    ∷ condition (P 5) 0 (first.fp == public.ap_first.number)
+    ∷ [])
+    ++ at_each (rows_with_next tables) (λ i row. map (λ e. condition (C e.number) i (holds e)) (equations row.0 row.1))
+    ++ (condition (P 6) steps (last.pc == 1 + program.end)
+    ∷ condition (P 7) steps (last.ap == public.ap_last.number)
+    ∷ [])
+    ++ at_each tables.range (λ i row. condition (V 1) i (row.value.number == joined_limbs row) ∷ [])
+    ++ at_each (neighbours pairs) (λ i pair.
+    condition (M 1) i (m1 pair.0 pair.1 == 0)
+    ∷ condition (M 2) i (m2 pair.0 pair.1 == 0)
+    ∷ [])
+    ++ (are_one (M 3) (pair_difference (accesses program public tables) pairs)
+    ∷ condition (Q 1) 0 (is_number public.rc_min (first_number values))
+    ∷ [])
+    ++ at_each (neighbours values) (λ i pair. condition (Q 2) i (climb pair.0.number pair.1.number == 0) ∷ [])
+    ++ (condition (Q 3) (length values - 1) (is_number public.rc_max (last_number values))
+    ∷ are_one (Q 4) (value_difference (range_values tables) values)
+    ∷ [])
+
+-- ---- the constraints, each once
+
+-- Every written constraint holds. The whitepaper's constraints of the Cairo machine, of its memory and of its range
+-- checks; C32 to C39, V1, M3 and Q4 are own.
+pub record MeetsAll (program : Listing) (public : Statement) (tables : Contents) : Type 0 where
+  -- P1: there are as many rows as steps.
+  pub p1 : length tables.rows ≡ public.steps
+  -- P2: there are as many range rows as the public input says.
+  pub p2 : length tables.range ≡ public.range_count
+  -- P3 to P5: the first state lies at the program's start, with ap and fp at the public first ap.
+  pub p3 : (first_state tables).pc ≡ 1 + program.start
+  pub p4 : (first_state tables).ap ≡ public.ap_first.number
+  pub p5 : (first_state tables).fp ≡ public.ap_first.number
+  -- C1 to C39, of each row and the state after it.
+  pub rows : All (λ row. Meets row.0 row.1) (rows_with_next tables)
+  -- P6 and P7: the last state lies at the program's end, with ap at the public last ap.
+  pub p6 : (last_state tables).pc ≡ 1 + program.end
+  pub p7 : (last_state tables).ap ≡ public.ap_last.number
+  -- V1, of each range row.
+  pub v1 : All V1 tables.range
+  -- M1 to M3, of all accesses to the memory and the sorted pairs.
+  pub m1 : M1 tables.pairs
+  pub m2 : M2 tables.pairs
+  pub m3 : M3 (accesses program public tables) tables.pairs
+  -- Q1 to Q4, of all values of the range check and the sorted ones.
+  pub q1 : Q1 tables.sorted_range public.rc_min
+  pub q2 : Q2 tables.sorted_range
+  pub q3 : Q3 tables.sorted_range public.rc_max
+  pub q4 : Q4 (range_values tables) tables.sorted_range

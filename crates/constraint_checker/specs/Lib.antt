@@ -1,0 +1,17 @@
+pub mod Lists
+pub mod Constraints
+pub mod Verdict
+pub mod Acceptance
+pub mod Shown
+pub mod Parts
+pub use Rattle.casm_word.specs.Transition
+pub use Rattle.casm_word.specs.Run
+pub use Rattle.cpu_rows.specs.Columns
+pub use Rattle.cpu_rows.specs.Steps
+pub use Rattle.cpu_rows.specs.Table
+pub use Rattle.memory_columns.specs.OneMemory
+pub use Rattle.range_columns.specs.Limbs
+pub use Rattle.program_file.specs.Listing
+pub use Rattle.public_input.specs.Statement
+pub use Rattle.public_input.specs.Valid
+pub use Rattle.table_file.specs.Tables
