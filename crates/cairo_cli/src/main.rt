@@ -36,10 +36,8 @@ fn answer<S: Store, K: Sink>(
 ) -> Status
     ensures replies { IfOk words (λ words. IfSome (S.seen store.old).files (λ files. IsDecided result →
         Replied (reply (drop 1 words.items) files) files result (S.seen store.new) (K.seen sink.old) (K.seen sink.new))) }
-    ensures complete { IfOk words (λ words. IfSome (S.seen store.old).files (λ files.
-        CountsNoFault (S.seen store.old) (S.seen store.new) (K.seen sink.old) (K.seen sink.new) →
-        (result ≡ Status.Memory → ⊥) →
-        Replied (reply (drop 1 words.items) files) files result (S.seen store.new) (K.seen sink.old) (K.seen sink.new))) }
+    ensures complete { CountsNoFault (S.seen store.old) (S.seen store.new) (K.seen sink.old) (K.seen sink.new) →
+        (result ≡ Status.Memory → ⊥) → IsDecided result }
     ensures means { IfOk words (λ words. IfSome (S.seen store.old).files (λ files. IsDecided result →
         IfSome (request_of (drop 1 words.items)) (λ request.
         Means request files result (S.seen store.new).files (K.seen sink.old).written (K.seen sink.new).written))) }

@@ -17,7 +17,7 @@ use Rattle.cairo_commands.specs.Parts.{refusal_answer, WorksOut, Plans, BlamesIn
 blames_file : (inputs : List Input) (outputs : List Name) (before after : Seen) (refusal : Refusal) → BlamesInput inputs before after refusal → BlamesFile inputs outputs before after refusal
 blames_file inputs outputs before after (Refused line) blames = blames
 blames_file inputs outputs before after Usage blames = blames
-blames_file inputs outputs before after (Unspelled position) blames = blames
+blames_file inputs outputs before after (Unspelled position text) blames = blames
 blames_file inputs outputs before after (OverLimit position) blames = blames
 blames_file inputs outputs before after (Missing position) blames = blames
 blames_file inputs outputs before after (StoreFault name) blames = inl blames
@@ -26,7 +26,7 @@ blames_file inputs outputs before after OutOfMemory blames = blames
 writes_nothing : (refusal : Refusal) → (refusal_answer refusal).writes ≡ []
 writes_nothing (Refused line) = refl
 writes_nothing Usage = refl
-writes_nothing (Unspelled position) = refl
+writes_nothing (Unspelled position text) = refl
 writes_nothing (OverLimit position) = refl
 writes_nothing (Missing position) = refl
 writes_nothing (StoreFault name) = refl
@@ -39,7 +39,7 @@ none_written (output ∷ more) files left same = inl same
 usage_again : (refusal : Refusal) → ◌≡◌ {A = Result Work Refusal} (Err refusal) (Err Usage) → ◌≡◌ {A = Result (String Global) Refusal} (Err refusal) (Err Usage)
 usage_again Usage same = refl
 usage_again (Refused line) same = cc
-usage_again (Unspelled position) same = cc
+usage_again (Unspelled position text) same = cc
 usage_again (OverLimit position) same = cc
 usage_again (Missing position) same = cc
 usage_again (StoreFault name) same = cc

@@ -1,5 +1,5 @@
 -- What the parts of a call say together: the evidence of its status, its reply, and what it leaves.
-use Rattle.std.proofs.Common.{◌≡◌, ◌≢◌, ℕ, ◌+◌, ◌≤◌, List, [], ◌∷◌, Option, Some, None, Result, Ok, Err, IfSome, IfErr, refl, sym, ap, ◌∙◌, inl, inr, ◌⊎◌, subst, String, Global, arith}
+use Rattle.std.proofs.Common.{◌≡◌, ◌≢◌, ℕ, ◌+◌, ◌≤◌, List, [], ◌∷◌, Option, Some, None, Result, Ok, Err, IfSome, IfErr, refl, sym, ap, ◌∙◌, inl, inr, ◌⊎◌, subst, String, string_bytes, Global, arith}
 use Rattle.std.specs.Io.KnownBytes.{Appends, Keeps}
 use Rattle.file_port.specs.Files.{Name, Files}
 use Rattle.file_port.specs.Counts.{Counts}
@@ -13,7 +13,7 @@ use Rattle.cairo_commands.specs.Answer.{Answer, Input, Task, missing, over_limit
 use Rattle.cairo_commands.specs.Request.{Request}
 use Rattle.cairo_commands.specs.Reply.{task, reply_to, inputs_of, outputs_of}
 use Rattle.cairo_commands.specs.Status.{IsDecided}
-use Rattle.cairo_commands.specs.Perform.{piece, OneOf, OneName, GaveMore, Evidence, Leaves, Replied, TellsFault}
+use Rattle.cairo_commands.specs.Perform.{piece, OneOf, OneName, PassesLimit, TellsUnspelled, Evidence, Leaves, Replied, TellsFault}
 use Rattle.cairo_commands.specs.Parts.{ending_answer, IsStoreFault, IsMissing, BlamesFile, CarriesOut, Carries, Prints}
 
 -- ---- one of several
@@ -37,7 +37,7 @@ stored : (ending : Ending) → (ending_answer ending).status ≡ status_of.Store
 stored (Ok line) is = cc
 stored (Err (Refused line)) is = cc
 stored (Err Usage) is = cc
-stored (Err (Unspelled position)) is = cc
+stored (Err (Unspelled position text)) is = cc
 stored (Err (OverLimit position)) is = cc
 stored (Err (Missing position)) is = cc
 stored (Err (StoreFault name)) is = tt
@@ -47,7 +47,7 @@ decided : (ending : Ending) → IsDecided (ending_answer ending).status → IsSt
 decided (Ok line) is fault = fault
 decided (Err (Refused line)) is fault = fault
 decided (Err Usage) is fault = fault
-decided (Err (Unspelled position)) is fault = fault
+decided (Err (Unspelled position text)) is fault = fault
 decided (Err (OverLimit position)) is fault = fault
 decided (Err (Missing position)) is fault = fault
 decided (Err (StoreFault name)) is fault = is
@@ -57,7 +57,7 @@ missed : (ending : Ending) → (ending_answer ending).status ≡ status_of.Missi
 missed (Ok line) is = cc
 missed (Err (Refused line)) is = cc
 missed (Err Usage) is = cc
-missed (Err (Unspelled position)) is = cc
+missed (Err (Unspelled position text)) is = cc
 missed (Err (OverLimit position)) is = cc
 missed (Err (Missing position)) is = tt
 missed (Err (StoreFault name)) is = cc
@@ -67,7 +67,7 @@ is_missing : (ending : Ending) → IsMissing ending → (ending_answer ending).s
 is_missing (Ok line) is = absurd is
 is_missing (Err (Refused line)) is = absurd is
 is_missing (Err Usage) is = absurd is
-is_missing (Err (Unspelled position)) is = absurd is
+is_missing (Err (Unspelled position text)) is = absurd is
 is_missing (Err (OverLimit position)) is = absurd is
 is_missing (Err (Missing position)) is = refl
 is_missing (Err (StoreFault name)) is = absurd is
@@ -77,7 +77,7 @@ settled : (ending : Ending) → (ending_answer ending).status ≢ status_of.Memo
 settled (Ok line) never = inl tt
 settled (Err (Refused line)) never = inl tt
 settled (Err Usage) never = inl tt
-settled (Err (Unspelled position)) never = inl tt
+settled (Err (Unspelled position text)) never = inl tt
 settled (Err (OverLimit position)) never = inl tt
 settled (Err (Missing position)) never = inl tt
 settled (Err (StoreFault name)) never = inr refl
@@ -128,7 +128,7 @@ module _ (Tells : List ℕ → Type 0) (inputs : List Input) (outputs : List Nam
   tells_fault (Ok line) blames is tells = cc
   tells_fault (Err (Refused line)) blames is tells = cc
   tells_fault (Err Usage) blames is tells = cc
-  tells_fault (Err (Unspelled position)) blames is tells = cc
+  tells_fault (Err (Unspelled position text)) blames is tells = cc
   tells_fault (Err (OverLimit position)) blames is tells = cc
   tells_fault (Err (Missing position)) blames is tells = cc
   tells_fault (Err OutOfMemory) blames is tells = cc
@@ -141,14 +141,14 @@ module _ (Tells : List ℕ → Type 0) (inputs : List Input) (outputs : List Nam
   tells_missing (Ok line) blames is tells = cc
   tells_missing (Err (Refused line)) blames is tells = cc
   tells_missing (Err Usage) blames is tells = cc
-  tells_missing (Err (Unspelled position)) blames is tells = cc
+  tells_missing (Err (Unspelled position text)) blames is tells = cc
   tells_missing (Err (OverLimit position)) blames is tells = cc
   tells_missing (Err (StoreFault name)) blames is tells = cc
   tells_missing (Err OutOfMemory) blames is tells = cc
   tells_missing (Err (Missing position)) blames is tells =
       OneOf-map (λ input most. position ≡ input.position) _ (λ input most same. subst (λ n. Tells (missing n).line) same tells) inputs 0 blames
 
-  tells_unspelled : (ending : Ending) → IfErr ending (BlamesFile inputs outputs before after) → (ending_answer ending).status ≡ status_of.Input → Tells (ending_answer ending).line → OneOf (λ input most. Tells (unspelled input.position).line) 0 inputs
+  tells_unspelled : (ending : Ending) → IfErr ending (BlamesFile inputs outputs before after) → (ending_answer ending).status ≡ status_of.Input → Tells (ending_answer ending).line → OneOf (λ input most. TellsUnspelled Tells input.position) 0 inputs
   tells_unspelled (Ok line) blames is tells = cc
   tells_unspelled (Err (Refused line)) blames is tells = cc
   tells_unspelled (Err Usage) blames is tells = cc
@@ -156,20 +156,21 @@ module _ (Tells : List ℕ → Type 0) (inputs : List Input) (outputs : List Nam
   tells_unspelled (Err (OverLimit position)) blames is tells = cc
   tells_unspelled (Err (StoreFault name)) blames is tells = cc
   tells_unspelled (Err OutOfMemory) blames is tells = cc
-  tells_unspelled (Err (Unspelled position)) blames is tells =
-      OneOf-map (λ input most. position ≡ input.position) _ (λ input most same. subst (λ n. Tells (unspelled n).line) same tells) inputs 0 blames
+  tells_unspelled (Err (Unspelled position text)) blames is tells =
+      OneOf-map (λ input most. position ≡ input.position) (λ input most. TellsUnspelled Tells input.position)
+      (λ input most same. (string_bytes text, subst (λ n. Tells (unspelled n (string_bytes text)).line) same tells)) inputs 0 blames
 
-  tells_limit : (ending : Ending) → IfErr ending (BlamesFile inputs outputs before after) → (ending_answer ending).status ≡ status_of.Limit → Tells (ending_answer ending).line → OneOf (λ input most. GaveMore input.limit before.given after.given × (after.given ≤ before.given + most) × Tells (over_limit input.position).line) 0 inputs
+  tells_limit : (ending : Ending) → IfErr ending (BlamesFile inputs outputs before after) → (ending_answer ending).status ≡ status_of.Limit → Tells (ending_answer ending).line → OneOf (λ input most. PassesLimit input before.given after.given × (after.given ≤ before.given + most) × Tells (over_limit input.position).line) 0 inputs
   tells_limit (Ok line) blames is tells = cc
   tells_limit (Err (Refused line)) blames is tells = cc
   tells_limit (Err Usage) blames is tells = cc
-  tells_limit (Err (Unspelled position)) blames is tells = cc
+  tells_limit (Err (Unspelled position text)) blames is tells = cc
   tells_limit (Err (Missing position)) blames is tells = cc
   tells_limit (Err (StoreFault name)) blames is tells = cc
   tells_limit (Err OutOfMemory) blames is tells = cc
   tells_limit (Err (OverLimit position)) blames is tells =
-      OneOf-map (λ input most. (position ≡ input.position) × GaveMore input.limit before.given after.given × (after.given ≤ before.given + most))
-      (λ input most. GaveMore input.limit before.given after.given × (after.given ≤ before.given + most) × Tells (over_limit input.position).line)
+      OneOf-map (λ input most. (position ≡ input.position) × PassesLimit input before.given after.given × (after.given ≤ before.given + most))
+      (λ input most. PassesLimit input before.given after.given × (after.given ≤ before.given + most) × Tells (over_limit input.position).line)
       (λ input most here. (here.1, here.2, subst (λ n. Tells (over_limit n).line) here.0 tells)) inputs 0 blames
 
 -- ---- the evidence

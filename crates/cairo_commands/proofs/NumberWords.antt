@@ -1,12 +1,13 @@
 -- Numbers among the words, and the last two words of a command that may be given a number of workers.
-use Rattle.std.proofs.Common.{◌≡◌, ◌≢◌, ℕ, ◌-◌, ◌<◌, ◌≤◌, ◌^◌, Bool, true, false, cond, ◌&&◌, ◌⊎◌, inl, inr, List, [], ◌∷◌, length, take, drop, get_or, map, Option, Some, None, option_map, Result, Ok, String, Global, string_bytes, refl, sym, ap, ◌∙◌, arith, subst, nat_le}
+use Rattle.std.proofs.Common.{◌≡◌, ◌≢◌, ℕ, ◌-◌, ◌<◌, ◌≤◌, ◌^◌, Bool, true, false, cond, ◌&&◌, ◌⊎◌, inl, inr, List, [], ◌∷◌, ◌++◌, length, take, drop, get_or, map, Option, Some, None, option_map, Result, Ok, String, Global, string_bytes, refl, sym, ap, ◌∙◌, arith, subst, nat_le}
 use Rattle.std.specs.Prelude.{codes}
 use Rattle.std.specs.Fmt.{decimal}
 use Rattle.std.specs.Str.{bytes_eq}
 use Rattle.std.specs.Str.Parse.{AllDigits, ParsesUnsigned, digits_value}
-use Rattle.std.proofs.Common.{zero, suc, drop-cons}
+use Rattle.std.proofs.Common.{zero, suc, drop-cons, lit<}
 use Rattle.std.proofs.Math.ListN.{drop_of_length-le}
-use Rattle.std.proofs.lemmas.List.{take-map, drop-map, length-map}
+use Rattle.std.proofs.Math.Seq.{take-append_seam, drop-append_seam}
+use Rattle.std.proofs.lemmas.List.{take-map, drop-map, length-map, length-append}
 use Rattle.std.proofs.lemmas.Bool.{and_parts, leb-true, le-leb}
 use Rattle.std.proofs.lemmas.Fmt.{decimal_is_IsNumeral, decimal_digit, decimal-digits_value, first_decimal, parse-decimal}
 use Rattle.std.proofs.lemmas.Slice.Eq.{bytes_eq-Decides}
@@ -126,3 +127,35 @@ unfolding split_workers
 split-few [] few = refl
 split-few (word ∷ []) few = refl
 split-few (word ∷ other ∷ more) few = absurd (omega arith)
+
+-- ---- words that end with an option and a number
+
+not_true : (b : Bool) → (b ≡ true → ⊥) → b ≡ false
+not_true true never = absurd (never refl)
+not_true false never = refl
+
+bytes_eq-other : (text other : List ℕ) → text ≢ other → bytes_eq text other ≡ false
+bytes_eq-other text other differs =
+    not_true (bytes_eq text other) (λ same. differs ((bytes_eq-Decides text other).0 same))
+
+module _ (names : List Name) (option number : Name) where
+  split_at : split_workers (names ++ option ∷ number ∷ []) ≡ told_workers (names ++ option ∷ number ∷ []) names (option ∷ number ∷ [])
+  unfolding split_workers
+  split_at =
+      let all : List Name = names ++ option ∷ number ∷ [] in
+      let count : length all - 2 ≡ length names = omega (arith, length-append names (option ∷ number ∷ [])) in
+      rw (count, take-append_seam names (option ∷ number ∷ []), drop-append_seam names (option ∷ number ∷ [])) refl
+
+  is_option : option ≡ codes "--workers" → bytes_eq option (codes "--workers") ≡ true
+  is_option same = (bytes_eq-Decides option (codes "--workers")).1 same
+
+  pub workers_told : (workers : ℕ) → option ≡ codes "--workers" → IsNumber 1 most_workers number workers → split_workers (names ++ option ∷ number ∷ []) ≡ Some (names, workers)
+  workers_told workers same is =
+      split_at ∙ rw (is_option same, some-from_IsNumber 1 most_workers number workers (lit< tt) is) refl
+
+  pub workers_untold : option ≡ codes "--workers" → ((workers : ℕ) → IsNumber 1 most_workers number workers → ⊥) → split_workers (names ++ option ∷ number ∷ []) ≡ None
+  workers_untold same never =
+      split_at ∙ rw (is_option same, none-from_never 1 most_workers number never) refl
+
+  pub one_worker : option ≢ codes "--workers" → split_workers (names ++ option ∷ number ∷ []) ≡ Some (names ++ option ∷ number ∷ [], 1)
+  one_worker other = split_at ∙ rw (bytes_eq-other option (codes "--workers") other) refl

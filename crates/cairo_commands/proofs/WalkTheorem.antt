@@ -11,14 +11,15 @@ use Rattle.casm_word.specs.Run.{steps}
 use Rattle.casm_word.proofs.Outcomes.{outcome-next}
 use Rattle.cairo_commands.specs.declared.status.Status.{Status}
 use Rattle.cairo_commands.specs.declared.status.Status.TheVariants.{Done, Refused}
-use Rattle.cairo_commands.specs.TraceFile.{trace_of}
-use Rattle.cairo_commands.specs.MemoryFile.{cells_of, memory_of}
+use Rattle.trace_files.specs.MemoryFile.{memory_of}
 use Rattle.cairo_commands.specs.Answer.{Answer, says}
 use Rattle.cairo_commands.specs.Reading.{◌>>=◌, read_as}
+use Rattle.cairo_commands.specs.RunFiles.{trace_input, memory_input, trace_read, cells_read}
 use Rattle.cairo_commands.specs.Perform.{Replied}
-use Rattle.cairo_commands.specs.Commands.Walk.{same_registers, is_next, refused_from, first_refused, walked, walk_answer, trace_input, memory_input, steps_line, refused_line, SpellsWalk, WalksLegally, WalkIsRefused, WalkMeans}
-use Rattle.cairo_commands.proofs.TraceFile.{trace_of-spelled, SpellsTrace-from_trace_of, length-spelled_trace}
-use Rattle.cairo_commands.proofs.MemoryFile.{cells_of-spelled, SpellsMemory-from_cells_of, length-spelled_memory}
+use Rattle.cairo_commands.specs.Commands.Walk.{same_registers, is_next, refused_from, first_refused, walked, walk_answer, steps_line, refused_line, SpellsWalk, WalksLegally, WalkIsRefused, WalkMeans}
+use Rattle.trace_files.proofs.TraceFile.{length-spelled_trace}
+use Rattle.trace_files.proofs.MemoryFile.{length-spelled_memory}
+use Rattle.cairo_commands.proofs.RunFiles.{trace_read-spelled, SpellsTrace-from_read, cells_read-spelled, SpellsMemory-from_read}
 use Rattle.cairo_commands.proofs.Readings.{IsOwn, Done_is_own, Refused_is_own, IsRead, read_ended, then_read}
 
 -- ---- no step is refused exactly where each is the transition
@@ -144,8 +145,8 @@ module _ (trace memory : Name) (files : Files) where
   reads_both : (status : Status) → IsOwn status → (walk_answer trace memory files).status ≡ status → (both : SpellsWalk trace memory files) × ((walked both.states (first_refused (memory_of both.cells) both.states)).status ≡ status)
   unfolding walk_answer
   reads_both status own ended =
-      let states = read_ended status own (trace_input trace) _ files trace_of ended in
-      let cells = read_ended status own (memory_input memory) _ files cells_of states.2 in (
+      let states = read_ended status own (trace_input 1 trace) _ files trace_read ended in
+      let cells = read_ended status own (memory_input 2 memory) _ files cells_read states.2 in (
         record {
           trace_bytes = states.1.bytes;
           memory_bytes = cells.1.bytes;
@@ -153,35 +154,35 @@ module _ (trace memory : Name) (files : Files) where
           memory_held = cells.1.held;
           states = states.0;
           cells = cells.0;
-          states_spelled = SpellsTrace-from_trace_of states.1.bytes states.0 states.1.spelled;
-          cells_spelled = SpellsMemory-from_cells_of cells.1.bytes cells.0 cells.1.spelled;
+          states_spelled = SpellsTrace-from_read states.1.bytes states.0 states.1.read;
+          cells_spelled = SpellsMemory-from_read cells.1.bytes cells.0 cells.1.read;
         },
         cells.2,
       )
 
   module _ (both : SpellsWalk trace memory files) where
-    states_read : IsRead trace_of (trace_input trace) files both.states
-    states_read = record {
+    trace_is_read : IsRead trace_read (trace_input 1 trace) files both.states
+    trace_is_read = record {
       bytes = both.trace_bytes;
       held = both.trace_held;
       short = omega (arith, length-spelled_trace both.trace_bytes both.states both.states_spelled, both.states_spelled.most);
-      spelled = trace_of-spelled both.trace_bytes both.states both.states_spelled;
+      read = trace_read-spelled both.trace_bytes both.states both.states_spelled;
     }
 
-    cells_read : IsRead cells_of (memory_input memory) files both.cells
-    cells_read = record {
+    memory_is_read : IsRead cells_read (memory_input 2 memory) files both.cells
+    memory_is_read = record {
       bytes = both.memory_bytes;
       held = both.memory_held;
       short = omega (arith, length-spelled_memory both.memory_bytes both.cells both.cells_spelled, both.cells_spelled.most);
-      spelled = cells_of-spelled both.memory_bytes both.cells both.cells_spelled;
+      read = cells_read-spelled both.memory_bytes both.cells both.cells_spelled;
     }
 
     -- what is answered where both files are read
     walk_answer-read : walk_answer trace memory files ≡ walked both.states (first_refused (memory_of both.cells) both.states)
     unfolding walk_answer
     walk_answer-read =
-        then_read trace_of (trace_input trace) files both.states states_read (λ states. read_as cells_of (memory_input memory) files >>= λ cells. Ok (walked states (first_refused (memory_of cells) states)))
-        ∙ then_read cells_of (memory_input memory) files both.cells cells_read (λ cells. Ok (walked both.states (first_refused (memory_of cells) both.states)))
+        then_read trace_read (trace_input 1 trace) files both.states trace_is_read (λ states. read_as cells_read (memory_input 2 memory) files >>= λ cells. Ok (walked states (first_refused (memory_of cells) states)))
+        ∙ then_read cells_read (memory_input 2 memory) files both.cells memory_is_read (λ cells. Ok (walked both.states (first_refused (memory_of cells) both.states)))
 
   walk_answer-legal : (walk : WalksLegally trace memory files) → walk_answer trace memory files ≡ says Done (steps_line (length walk.spelled.states - 1))
   unfolding first_refused

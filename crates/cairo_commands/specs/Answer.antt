@@ -1,5 +1,5 @@
 -- What a call is answered with, and what a command reads, writes and answers, as data. Own.
-use Rattle.std.specs.Prelude.{ℕ, List, [], ◌++◌, fold, codes}
+use Rattle.std.specs.Prelude.{ℕ, Bool, List, [], ◌++◌, fold, codes}
 use Rattle.std.specs.Fmt.{decimal}
 use Rattle.std.specs.FinMap.{insert}
 use Rattle.file_port.specs.Files.{Name, Files}
@@ -14,11 +14,13 @@ pub record Answer : Type 0 where
   pub line : List ℕ
 
 -- A file that a command reads: its position among the words, its name, and the most bytes that it may have. The
--- command has position 0. Own.
+-- command has position 0. It is counted where its bytes may keep within that limit, and what they spell have more
+-- entries than it may have. Own.
 pub record Input : Type 0 where
   pub position : ℕ
   pub name : Name
   pub limit : ℕ
+  pub counted : Bool
 
 -- What a command is asked to do: the files that it reads and the names of those that it writes, both in their
 -- order, and what it answers to the files. Own.
@@ -39,13 +41,13 @@ usage = says Words (codes "usage\n")
 abbrev pub missing : ℕ → Answer
 missing position = says Missing (codes "missing: input " ++ (decimal position ++ codes "\n"))
 
--- The input at this position has more bytes than its limit. Own.
+-- The input at this position has more bytes than its limit, or more entries than it may have. Own.
 abbrev pub over_limit : ℕ → Answer
 over_limit position = says Limit (codes "limit: input " ++ (decimal position ++ codes "\n"))
 
--- The bytes of the input at this position spell no value. Own.
-abbrev pub unspelled : ℕ → Answer
-unspelled position = says Unspelled (codes "input " ++ (decimal position ++ codes "\n"))
+-- The bytes of the input at this position spell no value, for the fault of this text. Own.
+abbrev pub unspelled : ℕ → List ℕ → Answer
+unspelled position fault = says Unspelled (codes "input " ++ (decimal position ++ (codes ": " ++ (fault ++ codes "\n"))))
 
 -- The line at a fault of the store. Own.
 abbrev pub store_fault_line : Name → List ℕ

@@ -1,1 +1,4 @@
+pub mod Asm
+pub mod Check
+pub mod Dis
 pub mod Walk

@@ -1,10 +1,10 @@
 pub mod Status
-pub mod FileNumbers
-pub mod TraceFile
-pub mod MemoryFile
 pub mod Answer
 pub mod Request
 pub mod Reading
+pub mod RunFiles
+pub mod Programs
+pub mod TableInputs
 pub mod Commands
 pub mod Reply
 pub mod Means
@@ -13,6 +13,8 @@ pub mod Parts
 pub use Rattle.casm_word.specs.Transition
 pub use Rattle.casm_word.specs.Run
 pub use Rattle.casm_word.specs.Text
+pub use Rattle.trace_files.specs.TraceFile
+pub use Rattle.trace_files.specs.MemoryFile
 pub use Rattle.file_port.specs.Files
 pub use Rattle.file_port.specs.Counts
 pub use Rattle.file_port.specs.Ports

@@ -1,5 +1,5 @@
 -- What the parts of a call say to one another. The contract of the call itself cites none of it. Own.
-use Rattle.std.specs.Prelude.{◌≡◌, ◌≤◌, ◌<◌, ◌⊎◌, ℕ, ◌+◌, ⊤, List, [], map, length, slice_index, Option, Some, None, Result, Ok, Err, OnOk, IfOk, IfErr, IfSome, String, string_bytes}
+use Rattle.std.specs.Prelude.{◌≡◌, ◌≤◌, ◌⊎◌, ℕ, ◌+◌, ⊤, List, [], map, Option, Some, None, Result, Ok, Err, OnOk, IfOk, IfErr, IfSome, String, string_bytes}
 use Rattle.std.specs.Option.{option_map}
 use Rattle.std.specs.Io.KnownBytes.{Appends, Keeps}
 use Rattle.std.specs.declared.alloc.Global.{Global}
@@ -15,20 +15,24 @@ use Rattle.cairo_commands.specs.declared.ending.Work.{Work}
 use Rattle.cairo_commands.specs.declared.ending.Output.{Output}
 use Rattle.cairo_commands.specs.declared.inputs.Input.{Input as CodeInput}
 use Rattle.cairo_commands.specs.declared.words.Command.{Command}
-use Rattle.cairo_commands.specs.declared.words.Command.TheVariants.{Walk as WalkCommand}
+use Rattle.cairo_commands.specs.declared.words.Command.TheVariants.{Walk as WalkCommand, Asm as AsmCommand, Dis as DisCommand, Check as CheckCommand}
 use Rattle.cairo_commands.specs.Status.{IsDecided}
 use Rattle.cairo_commands.specs.Answer.{Answer, Input, Task, says, usage, missing, over_limit, unspelled, written, store_fault_line}
-use Rattle.cairo_commands.specs.Request.{Request, Walk}
+use Rattle.cairo_commands.specs.Reading.{Unread, TooMuch, Faulty}
+use Rattle.cairo_commands.specs.Request.{Request, Walk, Asm, Dis, Check}
 use Rattle.cairo_commands.specs.Reply.{task}
-use Rattle.cairo_commands.specs.Perform.{GaveMore, OneOf, OneName, LeavesOutputs, most_given}
+use Rattle.cairo_commands.specs.Perform.{PassesLimit, OneOf, OneName, LeavesOutputs, most_given}
 
 -- The command that the code read off the words. Own.
 abbrev pub request : Command → Request
 request (WalkCommand trace memory) = Walk trace.now memory.now
+request (AsmCommand text program) = Asm text.now program.now
+request (DisCommand program text) = Dis program.now text.now
+request (CheckCommand program public tables) = Check program.now public.now tables.now
 
 -- An input of the code. Own.
 abbrev pub input_of : CodeInput → Input
-input_of input = record { position = input.position; name = input.name.now; limit = input.limit }
+input_of input = record { position = input.position; name = input.name.now; limit = input.limit; counted = input.counted }
 
 -- The outputs of the code. Own.
 abbrev pub outputs_in : List Output → List (Name × List ℕ)
@@ -38,7 +42,7 @@ outputs_in outputs = map (λ output. (output.name.now, output.bytes.items)) outp
 abbrev pub refusal_answer : Refusal → Answer
 refusal_answer (Refused line) = says RefusedStatus (string_bytes line)
 refusal_answer Usage = usage
-refusal_answer (Unspelled position) = unspelled position
+refusal_answer (Unspelled position fault) = unspelled position (string_bytes fault)
 refusal_answer (OverLimit position) = over_limit position
 refusal_answer (Missing position) = missing position
 refusal_answer (StoreFault name) = says StoreFailed (store_fault_line name.now)
@@ -48,6 +52,36 @@ refusal_answer OutOfMemory = says NoMemory []
 abbrev pub Gives : {X Y : Type 0} → (X → Y) → Result X Refusal → Result Y Answer → Type 0
 Gives view (Ok x) said = said ≡ Ok (view x)
 Gives view (Err refusal) said = IsDecided (refusal_answer refusal).status → said ≡ Err (refusal_answer refusal)
+
+-- The refusal says of the input at this position that this is what is read of its bytes, unless memory ran out. Own.
+abbrev pub TellsRead : {V : Type 0} → ℕ → Result V Unread → Refusal → Type 0
+TellsRead position reading (OverLimit at) = (at ≡ position) × (reading ≡ Err TooMuch)
+TellsRead position reading (Unspelled at fault) = (at ≡ position) × (reading ≡ Err (Faulty (string_bytes fault)))
+TellsRead position reading OutOfMemory = ⊤
+TellsRead position reading _ = ⊥
+
+-- The bytes of the input at this position are read as this says: as the value, or as none for what the refusal says. Own.
+abbrev pub ReadsAs : {X V : Type 0} → (X → V) → ℕ → Result V Unread → Result X Refusal → Type 0
+ReadsAs view position reading (Ok x) = reading ≡ Ok (view x)
+ReadsAs view position reading (Err refusal) = TellsRead position reading refusal
+
+-- The refusal says of the input at this position why its bytes are read as no value, unless memory ran out. Own.
+abbrev pub Refuses : ℕ → Unread → Refusal → Type 0
+Refuses position TooMuch (OverLimit at) = at ≡ position
+Refuses position (Faulty text) (Unspelled at fault) = (at ≡ position) × (string_bytes fault ≡ text)
+Refuses position why OutOfMemory = ⊤
+Refuses position why _ = ⊥
+
+-- The refusal tells this fault of the input at this position, unless memory ran out. Own.
+abbrev pub IsToldAs : ℕ → List ℕ → Refusal → Type 0
+IsToldAs position text (Unspelled at fault) = (at ≡ position) × (string_bytes fault ≡ text)
+IsToldAs position text OutOfMemory = ⊤
+IsToldAs position text _ = ⊥
+
+-- The refusal is that an input has too many bytes or entries. Own.
+abbrev pub IsOver : Refusal → Type 0
+IsOver (OverLimit position) = ⊤
+IsOver _ = ⊥
 
 -- A command has worked out this answer, or ends by it there, unless the store failed or memory ran out. Own.
 abbrev pub WorksOut : Result Work Refusal → Answer → Type 0
@@ -77,9 +111,9 @@ IsMissing (Err refusal) = IsAbsence refusal
 -- The refusal blames one of the inputs, by its position or its name, and where that is over its limit the bytes
 -- that were given show it. A command never blames the words. Own.
 abbrev pub BlamesInput : List Input → Seen → Seen → Refusal → Type 0
-BlamesInput inputs before after (OverLimit position) = OneOf (λ input most. (position ≡ input.position) × GaveMore input.limit before.given after.given × (after.given ≤ before.given + most)) 0 inputs
+BlamesInput inputs before after (OverLimit position) = OneOf (λ input most. (position ≡ input.position) × PassesLimit input before.given after.given × (after.given ≤ before.given + most)) 0 inputs
 BlamesInput inputs before after (Missing position) = OneOf (λ input most. position ≡ input.position) 0 inputs
-BlamesInput inputs before after (Unspelled position) = OneOf (λ input most. position ≡ input.position) 0 inputs
+BlamesInput inputs before after (Unspelled position fault) = OneOf (λ input most. position ≡ input.position) 0 inputs
 BlamesInput inputs before after (StoreFault name) = OneOf (λ input most. name.now ≡ input.name) 0 inputs
 BlamesInput inputs before after Usage = ⊥
 BlamesInput inputs before after _ = ⊤
@@ -159,7 +193,3 @@ abbrev pub Prints : Status → Answer → Option (List ℕ) → Option (List ℕ
 Prints Sink answer before now = AppendsPrefix before now answer.line
 Prints NoMemory answer before now = Keeps before now
 Prints status answer before now = (status ≡ answer.status) × Appends before now answer.line
-
--- The last of the numbers, if there is one, is below x. Own.
-abbrev pub LastBelow : List ℕ → ℕ → Type 0
-LastBelow xs x = (k : ℕ) → k + 1 ≡ length xs → slice_index xs k < x

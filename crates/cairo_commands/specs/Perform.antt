@@ -1,5 +1,5 @@
 -- What a call answers and leaves, in words for its contract. Own.
-use Rattle.std.specs.Prelude.{◌≡◌, ◌⊎◌, ℕ, ◌+◌, ◌≤◌, min, List, [], ◌∷◌, sum_by, Option, Some}
+use Rattle.std.specs.Prelude.{◌≡◌, ◌⊎◌, ℕ, ◌+◌, ◌≤◌, min, true, List, [], ◌∷◌, sum_by, Option, Some}
 use Rattle.std.specs.Io.KnownBytes.{Appends, Keeps}
 use Rattle.std.specs.FinMap.{insert}
 use Rattle.file_port.specs.Files.{Name, Files}
@@ -37,6 +37,15 @@ most_given inputs = sum_by (λ input. input.limit + piece) inputs
 abbrev pub GaveMore : ℕ → ℕ → ℕ → Type 0
 GaveMore limit before now = min (before + limit + 1) last_count ≤ now
 
+-- The input is over its limit: more bytes than that were given between the two counts, unless it is one that may have
+-- too many entries within its limit. Own.
+abbrev pub PassesLimit : Input → ℕ → ℕ → Type 0
+PassesLimit input before now = (input.counted ≡ true) ⊎ GaveMore input.limit before now
+
+-- The line tells of the input at this position that it spells nothing, and of some fault. Own.
+abbrev pub TellsUnspelled : (List ℕ → Type 0) → ℕ → Type 0
+TellsUnspelled Tells position = (fault : List ℕ) × Tells (unspelled position fault).line
+
 -- P of one of the inputs and of a number: the most bytes that are read by the end of that input. The number that
 -- is given says how many are read before the first. Own.
 abbrev pub OneOf : (Input → ℕ → Type 0) → ℕ → List Input → Type 0
@@ -56,24 +65,25 @@ TellsFault Tells inputs outputs before after =
 
 -- The evidence of a status, in every store and sink: what the counts show, and what the line tells. Own.
 pub record Evidence (inputs : List Input) (outputs : List Name) (before after : Seen) (sink_before sink_after : SinkSeen) (status : Status) : Type 0 where
-  -- a fault of the store is answered only where one was counted, and none that was counted is passed over
+  -- a fault of the store is answered only where one was counted; where the ending is decided, none was counted
   pub store_fault : status ≡ Store → Rose before.faults after.faults
   pub no_store_fault : IsDecided status → after.faults ≡ before.faults
   pub no_torn_file : IsDecided status → after.torn ≡ before.torn
   pub store_line : status ≡ Store → TellsFault (Appends sink_before.written sink_after.written) inputs outputs before after
   -- a fault of the sink is counted exactly there
   pub sink_faults : Counts sink_before.faults sink_after.faults (status ≡ Sink)
-  -- a name is missing only where one was counted, and none that was counted is passed over
+  -- a name is missing only where one was counted; where another ending is decided, none was counted
   pub missing_name : status ≡ Missing → Rose before.absent after.absent
   pub none_missing : IsDecided status → (status ≡ Missing → ⊥) → after.absent ≡ before.absent
   pub missing_line : status ≡ Missing → OneOf (λ input most. Appends sink_before.written sink_after.written (missing input.position).line) 0 inputs
   -- no name was missing where the store failed
   pub none_missing_at_fault : status ≡ Store → after.absent ≡ before.absent
   -- what spells nothing is an input
-  pub input_line : status ≡ Unspelled → OneOf (λ input most. Appends sink_before.written sink_after.written (unspelled input.position).line) 0 inputs
-  -- an input is over its own limit only where more was given; no more is read than it and those before it allow
+  pub input_line : status ≡ Unspelled → OneOf (λ input most. TellsUnspelled (Appends sink_before.written sink_after.written) input.position) 0 inputs
+  -- an input is over its own limit only where more was given, or it may have too many entries; no more is read than it
+  -- and those before it allow
   pub limit : status ≡ Limit → OneOf (λ input most.
-      GaveMore input.limit before.given after.given
+      PassesLimit input before.given after.given
       × (after.given ≤ before.given + most)
       × Appends sink_before.written sink_after.written (over_limit input.position).line) 0 inputs
   pub bounded : after.given ≤ before.given + most_given inputs

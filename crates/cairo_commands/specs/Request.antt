@@ -9,6 +9,9 @@ use Rattle.file_port.specs.Files.{Name}
 -- A command with its names. Own.
 pub data Request : Type 0 where
   Walk : (trace memory : Name) → Request
+  Asm : (text program : Name) → Request
+  Dis : (program text : Name) → Request
+  Check : (program public tables : Name) → Request
 
 -- One of the names is this one. Own.
 abbrev pub is_among : List Name → Name → Bool
@@ -53,8 +56,3 @@ told_workers words names _ = Some (words, 1)
 -- that number, and both are no names; else it is 1. Own.
 unfoldable pub split_workers : List Name → Option (List Name × ℕ)
 split_workers words = told_workers words (take (length words - 2) words) (drop (length words - 2) words)
-
--- What is asked with these names and so many workers, where the words tell them. Own.
-abbrev pub with_workers : Option (List Name × ℕ) → (List Name → ℕ → Option Request) → Option Request
-with_workers None asks = None
-with_workers (Some told) asks = asks told.0 told.1

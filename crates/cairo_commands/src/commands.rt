@@ -1,3 +1,6 @@
 //! The commands, a module each.
 
+pub(crate) mod asm;
+pub(crate) mod check;
+pub(crate) mod dis;
 pub(crate) mod walk;

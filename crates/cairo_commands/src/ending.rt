@@ -1,7 +1,7 @@
 //! What a command works out, and how a call ends that does not get so far.
 
-ghost use Rattle.std.specs.Prelude.{◌≡◌, IfOk, string_bytes};
-ghost use Rattle.cairo_commands.specs.Parts.{refusal_answer};
+ghost use Rattle.std.specs.Prelude.{◌≡◌, ◌∷◌, [], IfOk, string_bytes};
+ghost use Rattle.cairo_commands.specs.Parts.{refusal_answer, outputs_in};
 
 use crate::status::Status;
 use std::alloc::{AllocError, Global};
@@ -20,6 +20,23 @@ pub(crate) struct Work<'w> {
     pub(crate) line: String,
 }
 
+impl<'w> Work<'w> {
+    /// One file to write, and the line.
+    pub(crate) fn of_output(
+        alloc: Global,
+        name: &'w str,
+        bytes: Vec<u8>,
+        line: String,
+    ) -> Result<Work<'w>, AllocError>
+        ensures outputs { IfOk result (λ work. outputs_in work.outputs.items ≡ (name.now, bytes.items) ∷ []) }
+        ensures line { IfOk result (λ work. work.line ≡ line) }
+    {
+        let mut outputs = Vec::new(alloc);
+        outputs.push(Output { name, bytes })?;
+        Ok(Work { outputs, line })
+    }
+}
+
 /// Why a command did not do its work.
 #[derive(Drop)]
 pub(crate) enum Refusal<'w> {
@@ -27,9 +44,9 @@ pub(crate) enum Refusal<'w> {
     Refused { line: String },
     /// The words are an unknown command.
     Usage,
-    /// The input at this position among the words spells nothing.
-    Unspelled { position: usize },
-    /// The input at this position has more bytes than its limit.
+    /// The input at this position among the words spells nothing, for this fault.
+    Unspelled { position: usize, fault: String },
+    /// The input at this position has more bytes than its limit, or more entries than it may have.
     OverLimit { position: usize },
     /// The input at this position is missing.
     Missing { position: usize },
@@ -72,7 +89,9 @@ impl Refusal<'_> {
         match self {
             Refusal::Refused { line } => Ok(line),
             Refusal::Usage => format!(in alloc; "usage\n"),
-            Refusal::Unspelled { position } => format!(in alloc; "input {position}\n"),
+            Refusal::Unspelled { position, fault } => {
+                format!(in alloc; "input {position}: {fault}\n")
+            }
             Refusal::OverLimit { position } => format!(in alloc; "limit: input {position}\n"),
             Refusal::Missing { position } => format!(in alloc; "missing: input {position}\n"),
             Refusal::StoreFault { name } => format!(in alloc; "store fault: {name}\n"),

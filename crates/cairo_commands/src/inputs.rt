@@ -13,12 +13,16 @@ use std::alloc::{AllocError, Global};
 /// How many bytes are asked for at a time.
 const PIECE: usize = 65536;
 
-/// A file to read: its position among the words, its name, and the most bytes that it may have.
+/// A file to read.
 #[derive(Clone, Copy)]
 pub(crate) struct Input<'w> {
+    /// Its position among the words.
     pub(crate) position: usize,
     pub(crate) name: &'w str,
+    /// The most bytes that it may have.
     pub(crate) limit: usize,
+    /// Whether it may have too many entries within this limit.
+    pub(crate) counted: bool,
 }
 
 /// The bytes of an input. A missing name, more bytes than the limit, a fault of the store and want of memory are its
@@ -60,6 +64,7 @@ fn read_rest<'w, S: Store>(
         position,
         name,
         limit,
+        ..
     } = input;
     let mut piece = empty_piece(alloc)?;
     let mut bytes = Vec::new(alloc);

@@ -1,33 +1,32 @@
 //! Laws of the definitions: functions that do nothing, and whose contracts say what always holds.
 
-ghost use Rattle.std.specs.Prelude.{◌≡◌, ◌≢◌, ℕ, ◌+◌, ◌^◌, ◌<◌, ◌≤◌, ◌↔◌, List, Some, None, length, slice_index_or};
+ghost use Rattle.std.specs.Prelude.{◌≡◌, ◌≢◌, ℕ, ◌+◌, ◌^◌, ◌<◌, ◌≤◌, ◌↔◌, List, [], ◌∷◌, ◌++◌, codes, map, String, Some, None, length, slice_index_or};
 ghost use Rattle.casm_word.specs.Transition.{Memory, Registers, Outcome, next, outcome};
 ghost use Rattle.casm_word.specs.Run.{LegalRun};
-ghost use Rattle.file_port.specs.Files.{Name};
-ghost use Rattle.cairo_commands.specs.Request.{IsNumber, number_in};
-ghost use Rattle.cairo_commands.specs.TraceFile.{SpellsTrace, trace_of};
-ghost use Rattle.cairo_commands.specs.MemoryFile.{Cell, SpellsMemory, cells_of};
+ghost use Rattle.std.specs.declared.alloc.Global.{Global};
+ghost use Rattle.file_port.specs.Files.{Name, Files};
+ghost use Rattle.cairo_commands.specs.Request.{IsNumber, number_in, most_workers, split_workers};
 ghost use Rattle.cairo_commands.specs.Commands.Walk.{first_refused};
+ghost use Rattle.cairo_commands.specs.Status.{IsDecided};
+ghost use Rattle.cairo_commands.specs.Reply.{reply, request_of, outputs_of};
 ghost use Rattle.cairo_commands.specs.Perform.{CountsNoFault};
 
+use crate::status::Status;
 use file_port::{Sink, Store, SureSink, SureStore};
 
-/// What is read of a file is what its bytes spell, and bytes spell one value at most.
-pub fn reading_laws()
-    ensures trace { (bytes : List ℕ) (states : List Registers) →
-        SpellsTrace bytes states ↔ (trace_of bytes ≡ Some states) }
-    ensures one_trace { (bytes : List ℕ) (s t : List Registers) →
-        SpellsTrace bytes s → SpellsTrace bytes t → s ≡ t }
-    ensures memory { (bytes : List ℕ) (cells : List Cell) →
-        SpellsMemory bytes cells ↔ (cells_of bytes ≡ Some cells) }
-    ensures one_memory { (bytes : List ℕ) (c d : List Cell) →
-        SpellsMemory bytes c → SpellsMemory bytes d → c ≡ d }
-{}
-
-/// A word is told to be a number exactly where it is written so, within the bounds.
+/// A word is told to be a number exactly where it is written so, within the bounds. Words that end with `--workers` and
+/// a number from 1 to 64 have that many workers and the words before them as names. With another last word they are
+/// refused. Other words are all names, for one worker.
 pub fn number_laws()
-    ensures { (least most : ℕ) (word : Name) (number : ℕ) → most < 2 ^ 64 →
+    ensures number { (least most : ℕ) (word : Name) (number : ℕ) → most < 2 ^ 64 →
         (IsNumber least most word number ↔ (number_in least most word ≡ Some number)) }
+    ensures workers { (names : List Name) (number : Name) (workers : ℕ) → IsNumber 1 most_workers number workers →
+        split_workers (names ++ codes "--workers" ∷ number ∷ []) ≡ Some (names, workers) }
+    ensures no_number { (names : List Name) (word : Name) → ((workers : ℕ) → IsNumber 1 most_workers word workers → ⊥) →
+        split_workers (names ++ codes "--workers" ∷ word ∷ []) ≡ None }
+    ensures no_option { (names : List Name) (word last : Name) → word ≢ codes "--workers" →
+        split_workers (names ++ word ∷ last ∷ []) ≡ Some (names ++ word ∷ last ∷ [], 1) }
+    ensures few { (words : List Name) → length words < 2 → split_workers words ≡ Some (words, 1) }
 {}
 
 /// No step is refused exactly where the states are a legal run. A step that is refused is the first that is not the
@@ -44,6 +43,16 @@ pub fn walk_laws()
     ensures first { (m : Memory) (states : List Registers) (k : ℕ) (o : Outcome) (d : Registers) →
         first_refused m states ≡ Some (k, o) → (j : ℕ) → j < k →
         next m (slice_index_or states j d) ≡ Some (slice_index_or states (j + 1) d) }
+{}
+
+/// Each reply is decided by the words and the files. One that ends with `Done` writes the outputs of its command, in their
+/// order, and no other file; another writes none. So a command that is refused leaves all files as they were.
+pub fn reply_laws()
+    ensures decided { (words : List (String Global)) (files : Files) → IsDecided (reply words files).status }
+    ensures nothing { (words : List (String Global)) (files : Files) →
+        (reply words files).status ≢ Status.Done → (reply words files).writes ≡ [] }
+    ensures outputs { (words : List (String Global)) (files : Files) → (reply words files).status ≡ Status.Done →
+        map (λ write. write.0) (reply words files).writes ≡ outputs_of (request_of words) }
 {}
 
 /// Over a store and a sink in memory that never fail no call counts a fault, so [`perform`](crate::perform) is answered

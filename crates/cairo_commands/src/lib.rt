@@ -10,22 +10,27 @@ ghost use Rattle.cairo_commands.specs.Means.{Means};
 ghost use Rattle.cairo_commands.specs.Perform.{Replied, CountsNoFault, Evidence, Leaves};
 ghost use Rattle.cairo_commands.specs.Parts.{WorksOut, Plans, Carries};
 
+mod again;
 mod commands;
 mod ending;
-mod file_numbers;
 mod inputs;
 mod laws;
-mod memory_file;
 mod outputs;
 mod print;
+mod programs;
+mod run_files;
 mod status;
-mod trace_file;
+mod table_inputs;
 mod words;
 
+pub use again::again_laws;
+use commands::asm::asm;
+use commands::check::check;
+use commands::dis::dis;
 use commands::walk::walk;
 use ending::{Refusal, Work};
 use file_port::{Sink, Store};
-pub use laws::{number_laws, reading_laws, sure_laws, walk_laws};
+pub use laws::{number_laws, reply_laws, sure_laws, walk_laws};
 use outputs::write_outputs;
 use print::print;
 pub use status::Status;
@@ -34,8 +39,13 @@ use words::{Command, command_of};
 
 /// Does what the words ask for, with the files of the store, and prints one line to the sink.
 ///
-/// The words are a command and its names. `walk TRACE MEMORY` reads a trace file and a memory file, and looks
-/// whether each step of the trace is the transition of the Cairo machine in that memory.
+/// The words are a command and its names:
+///
+/// - `walk TRACE MEMORY` looks whether each step of a trace is the transition of the Cairo machine in a memory.
+/// - `asm TEXT PROGRAM` assembles an assembly text, and writes the program file.
+/// - `dis PROGRAM TEXT` shows the words of a program file, and writes them as an assembly text.
+/// - `check PROGRAM PUBLIC TABLES` looks whether tables meet every written constraint. Accepted tables describe a run of
+///   the program with this public input.
 ///
 /// [`Status`] says when each ending comes. The answer, the files and the line are those of the reply, which is a
 /// function of the words and the files. A call of the store or the sink that fails, or want of memory, ends it before.
@@ -45,14 +55,13 @@ pub fn perform<S: Store, K: Sink>(
     store: &mut S,
     sink: &mut K,
 ) -> Status
-    // Where the store tells its files, status, files and line are those of the reply. Where no fault was counted and
-    // memory was there, no other status stands in its place.
+    // Where the store tells its files, status, files and line are those of the reply. In every store and sink, where no
+    // fault was counted and memory was there, no other status stands in its place: so files that meet what an ending
+    // means get that ending.
     ensures replies { IfSome (S.seen store.old).files (λ files. IsDecided result →
         Replied (reply words.now files) files result (S.seen store.new) (K.seen sink.old) (K.seen sink.new)) }
-    ensures complete { IfSome (S.seen store.old).files (λ files.
-        CountsNoFault (S.seen store.old) (S.seen store.new) (K.seen sink.old) (K.seen sink.new) →
-        (result ≡ Status.Memory → ⊥) →
-        Replied (reply words.now files) files result (S.seen store.new) (K.seen sink.old) (K.seen sink.new)) }
+    ensures complete { CountsNoFault (S.seen store.old) (S.seen store.new) (K.seen sink.old) (K.seen sink.new) →
+        (result ≡ Status.Memory → ⊥) → IsDecided result }
 
     // What the endings of each command mean.
     ensures means { IfSome (S.seen store.old).files (λ files. IsDecided result → IfSome (request_of words.now) (λ request.
@@ -105,6 +114,15 @@ fn plan<'w, S: Store>(
 {
     match command_of(words) {
         Some(Command::Walk { trace, memory }) => walk(alloc, store, trace, memory),
+        Some(Command::Asm { text, program }) => asm(alloc, store, text, program),
+        Some(Command::Dis { program, text }) => dis(alloc, store, program, text),
+        Some(
+            Command::Check {
+                program,
+                public,
+                tables,
+            },
+        ) => check(alloc, store, program, public, tables),
         None => Err(Refusal::Usage),
     }
 }

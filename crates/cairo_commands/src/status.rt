@@ -12,7 +12,7 @@ pub enum Status {
     Refused,
     /// 2: the words are an unknown command.
     Words,
-    /// 3: an input was read whole and spells nothing.
+    /// 3: an input was read whole and spells nothing, for the fault that the line tells.
     Input,
     /// 5: a call of the store failed.
     Store,
@@ -20,7 +20,7 @@ pub enum Status {
     Sink,
     /// 7: there was not enough memory. Nothing was printed.
     Memory,
-    /// 8: an input has more bytes than its limit.
+    /// 8: an input has more bytes than its limit, or more entries than it may have.
     Limit,
     /// 9: an input is missing.
     Missing,

@@ -1,7 +1,10 @@
 //! Tables of calls. What they answer and print was computed outside, from the tables of the machine and of the files.
 
+mod checks;
 mod faults;
+mod programs;
 mod steps;
+mod vectors;
 mod walk;
 mod words;
 

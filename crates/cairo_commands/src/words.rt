@@ -5,6 +5,9 @@ ghost use Rattle.cairo_commands.specs.Request as rules;
 ghost use Rattle.cairo_commands.specs.Reply.{request_of, request_in, texts};
 ghost use Rattle.cairo_commands.specs.Parts.{request};
 
+use crate::commands::asm::asm_command;
+use crate::commands::check::check_command;
+use crate::commands::dis::dis_command;
 use crate::commands::walk::walk_command;
 
 /// A command with the names that it is given.
@@ -16,6 +19,29 @@ pub(crate) enum Command<'w> {
         trace: &'w str,
         /// The name of the memory file.
         memory: &'w str,
+    },
+    /// An assembly text is assembled to a program file.
+    Asm {
+        /// The name of the text.
+        text: &'w str,
+        /// The name of the program file.
+        program: &'w str,
+    },
+    /// A program file is shown as an assembly text.
+    Dis {
+        /// The name of the program file.
+        program: &'w str,
+        /// The name of the text.
+        text: &'w str,
+    },
+    /// Do tables meet every written constraint?
+    Check {
+        /// The name of the program file.
+        program: &'w str,
+        /// The name of the public input.
+        public: &'w str,
+        /// The name of the tables.
+        tables: &'w str,
     },
 }
 
@@ -37,6 +63,9 @@ fn named_command<'w>(command: &str, names: &'w [String]) -> Option<Command<'w>>
 {
     match command {
         "walk" => walk_command(names),
+        "asm" => asm_command(names),
+        "dis" => dis_command(names),
+        "check" => check_command(names),
         _ => None,
     }
 }

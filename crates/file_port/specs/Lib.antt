@@ -4,3 +4,4 @@ pub mod Ports
 pub mod Seen
 pub mod Kept
 pub mod Disk
+pub mod Replacing

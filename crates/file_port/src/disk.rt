@@ -10,6 +10,7 @@ ghost use Rattle.file_port.specs.Ports.{OnFound, OnMissing};
 ghost use Rattle.file_port.specs.Seen.{BeginsRead, ReadsNext, Replaces};
 
 use crate::ports::{PortError, Sink, Store};
+use crate::replacing::replace_whole;
 use std::alloc::Global;
 use std::fs;
 use std::io::{self, ErrorKind, Read};
@@ -123,15 +124,16 @@ impl<R: Files + Clone + Drop> Store for DiskStore<R> {
         }
     }
 
-    fn replace(&mut self, _alloc: Global, name: &str, bytes: &[u8]) -> Result<(), PortError>
+    fn replace(&mut self, alloc: Global, name: &str, bytes: &[u8]) -> Result<(), PortError>
         ensures replaces { Replaces name.now bytes.now (⟦<DiskStore<R> as Store>⟧.seen self.old)
             (⟦<DiskStore<R> as Store>⟧.seen self.new) result }
         ensures closed { IsNone (open_file self.new) }
     {
         self.file = None;
-        match fs::write(&self.rt, name, bytes) {
+        match replace_whole(alloc, &self.rt, name, bytes) {
             Ok(()) => Ok(()),
-            Err(_) => {
+            Err(PortError::Memory) => Err(PortError::Memory),
+            Err(PortError::Failed) => {
                 self.torn = self.torn.saturating_add(1);
                 self.faults = self.faults.saturating_add(1);
                 Err(PortError::Failed)

@@ -8,6 +8,7 @@
 mod disk;
 mod memory;
 mod ports;
+mod replacing;
 mod sure;
 
 pub use disk::{DiskStore, OutSink};

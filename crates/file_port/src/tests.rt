@@ -7,6 +7,7 @@ use std::test::Fail;
 use std::{env, fs, io};
 
 mod faulty;
+mod replacing;
 
 /// A call on a store, and what it must answer.
 #[derive(Drop)]

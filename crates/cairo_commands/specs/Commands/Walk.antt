@@ -9,11 +9,12 @@ use Rattle.casm_word.specs.Run.{steps, LegalRun}
 use Rattle.cairo_commands.specs.declared.status.Status.{Status}
 use Rattle.cairo_commands.specs.declared.status.Status.TheVariants.{Done, Refused}
 use Rattle.casm_word.specs.Text.{step_text}
-use Rattle.cairo_commands.specs.TraceFile.{SpellsTrace, trace_of, trace_limit}
-use Rattle.cairo_commands.specs.MemoryFile.{Cell, SpellsMemory, cells_of, memory_of, memory_limit}
-use Rattle.cairo_commands.specs.Answer.{Answer, Input, Task, says}
+use Rattle.trace_files.specs.TraceFile.{SpellsTrace}
+use Rattle.trace_files.specs.MemoryFile.{Cell, SpellsMemory, memory_of}
+use Rattle.cairo_commands.specs.Answer.{Answer, Task, says}
 use Rattle.cairo_commands.specs.Request.{Request, Walk, are_names}
 use Rattle.cairo_commands.specs.Reading.{◌>>=◌, answered, read_as}
+use Rattle.cairo_commands.specs.RunFiles.{trace_input, memory_input, trace_read, cells_read}
 
 -- ---- its words, its inputs and its lines
 
@@ -23,14 +24,6 @@ walk_request (trace ∷ memory ∷ []) = if are_names (trace ∷ memory ∷ []) 
 walk_request [] = None
 walk_request (a ∷ []) = None
 walk_request (a ∷ b ∷ c ∷ more) = None
-
--- The trace is the first input. Own.
-abbrev pub trace_input : Name → Input
-trace_input name = record { position = 1; name = name; limit = trace_limit }
-
--- The memory is the second input. Own.
-abbrev pub memory_input : Name → Input
-memory_input name = record { position = 2; name = name; limit = memory_limit }
 
 -- The line of a walk along so many legal steps. Own.
 abbrev pub steps_line : ℕ → List ℕ
@@ -73,14 +66,14 @@ walked states (Some refused) = says Refused (refused_line refused.0 refused.1)
 -- Both files are read, the trace first, and then each step is looked at. Own.
 unfoldable pub walk_answer : Name → Name → Files → Answer
 walk_answer trace memory files = answered (do
-  states ← read_as trace_of (trace_input trace) files
-  cells ← read_as cells_of (memory_input memory) files
+  states ← read_as trace_read (trace_input 1 trace) files
+  cells ← read_as cells_read (memory_input 2 memory) files
   Ok (walked states (first_refused (memory_of cells) states)))
 
 -- What `walk` reads and answers. Own.
 abbrev pub walk_task : Name → Name → Task
 walk_task trace memory = record {
-  inputs = trace_input trace ∷ memory_input memory ∷ [];
+  inputs = trace_input 1 trace ∷ memory_input 2 memory ∷ [];
   outputs = [];
   answer = walk_answer trace memory;
 }

@@ -136,7 +136,14 @@ fn files_are_read_in_any_pieces(rt: HostRuntime) -> Result<(), Fail> {
     let store = store_of(alloc, &[("T", &trace), ("M", &memory)], &[])?;
     let mut store = Bytewise { store };
     let row = "a memory with a byte cut";
-    check(&rt, alloc, row, WALK, &mut store, (Input, "input 2\n"))?;
+    check(
+        &rt,
+        alloc,
+        row,
+        WALK,
+        &mut store,
+        (Input, "input 2: Length\n"),
+    )?;
     Ok(())
 }
 

@@ -23,8 +23,6 @@ const UNKNOWN_COMMANDS: &[&[&str]] = &[
     &["wal", "T", "M"],
     &["", "T", "M"],
     &["T", "M"],
-    &["check", "P", "U", "T"],
-    &["asm", "X", "X"],
 ];
 
 /// What is tried: words with names of which some are missing, the files that are there, and what is answered.
@@ -42,7 +40,7 @@ const NAMES: &[Named] = &[
         &["walk", "T", "T"],
         &["T"],
         Input,
-        "input 2\n",
+        "input 2: Length\n",
     ),
     (
         "names with a blank and a letter that is not ASCII",
@@ -97,9 +95,23 @@ fn missing_names_are_told(rt: HostRuntime) -> Result<(), Fail> {
     // Where the first input decides, the second is not begun, missing or not: that call would fail.
     let row = "the first input decides";
     let mut store = store_of(alloc, &[("T", b"no trace")], &[4])?;
-    check(&rt, alloc, row, WALK, &mut store, (Input, "input 1\n"))?;
+    check(
+        &rt,
+        alloc,
+        row,
+        WALK,
+        &mut store,
+        (Input, "input 1: Length\n"),
+    )?;
     let mut store = store_of(alloc, &[("T", b"no trace"), ("M", b"")], &[4])?;
-    check(&rt, alloc, row, WALK, &mut store, (Input, "input 1\n"))?;
+    check(
+        &rt,
+        alloc,
+        row,
+        WALK,
+        &mut store,
+        (Input, "input 1: Length\n"),
+    )?;
     let mut store = store_of(alloc, &[("M", b"")], &[2])?;
     let missing = (Missing, "missing: input 1\n");
     check(&rt, alloc, row, WALK, &mut store, missing)?;

@@ -1,12 +1,13 @@
 use Rattle.std.proofs.Common.{◌≡◌, ◌+◌, ◌-◌, sym, ◌∙◌, arith}
 use Rattle.casm_word.specs.Transition.{outcome_of}
-use Rattle.cairo_commands.specs.MemoryFile.{memory_of, as_cells}
+use Rattle.trace_files.specs.MemoryFile.{memory_of, as_cells}
+use Rattle.trace_files.specs.CellList.{listed}
 use Rattle.cairo_commands.proofs.WalkSteps.{refused_here, refused_later, first_refused-end}
 use Rattle.cairo_commands.proofs.commands.walk.first_refused.Goals as goal
 
 pub returns-then-not-is_next : goal.returns-then-not-is_next
 returns-then-not-is_next c =
-    refused_here (memory_of (as_cells c.args.cells.now.cells.items)) c.args.states.now c.loop-i.i c.index-states-i.result c.index-states-i-in-loop-i.result (outcome_of c.step-found.result)
+    refused_here (memory_of (as_cells (listed c.args.cells.now))) c.args.states.now c.loop-i.i c.index-states-i.result c.index-states-i-in-loop-i.result (outcome_of c.step-found.result)
     (omega arith) (omega arith) c.index-states-i.is c.index-states-i-in-loop-i.is c.step-found.ensures.outcome c.loop-i.invariant
     (sym c.is_next.ensures ∙ c.if-not-is_next.true)
 
@@ -14,10 +15,10 @@ pub loop-i-preserved : goal.loop-i-preserved
 loop-i-preserved c =
     let next_place : c.loop-i.i + 1 - 1 ≡ c.loop-i.i = omega arith in
     rw next_place
-    (refused_later (memory_of (as_cells c.args.cells.now.cells.items)) c.args.states.now c.loop-i.i c.index-states-i.result c.index-states-i-in-loop-i.result (outcome_of c.step-found.result)
+    (refused_later (memory_of (as_cells (listed c.args.cells.now))) c.args.states.now c.loop-i.i c.index-states-i.result c.index-states-i-in-loop-i.result (outcome_of c.step-found.result)
     (omega arith) (omega arith) c.index-states-i.is c.index-states-i-in-loop-i.is c.step-found.ensures.outcome c.loop-i.invariant
     (sym c.is_next.ensures ∙ c.if-not-is_next.false))
 
 pub returns : goal.returns
 returns c =
-    sym (first_refused-end (memory_of (as_cells c.args.cells.now.cells.items)) c.args.states.now (c.loop-i.i - 1) (omega arith) c.loop-i.invariant)
+    sym (first_refused-end (memory_of (as_cells (listed c.args.cells.now))) c.args.states.now (c.loop-i.i - 1) (omega arith) c.loop-i.invariant)

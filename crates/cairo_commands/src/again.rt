@@ -1,0 +1,35 @@
+//! Assembling what was disassembled, and disassembling what was assembled: a law of the two answers.
+
+ghost use Rattle.std.specs.Prelude.{◌≡◌, ◌↔◌, List, [], ◌∷◌, length};
+ghost use Rattle.file_port.specs.Files.{Name, Files};
+ghost use Rattle.casm_statements.specs.declared.Item.{Item};
+ghost use Rattle.assembler.specs.Assembling.{assembly_of};
+ghost use Rattle.assembler.specs.Disassembly.{Disassembles};
+ghost use Rattle.program_file.specs.Listing.{Listing};
+ghost use Rattle.program_file.specs.Format.{written as program_bytes};
+ghost use Rattle.cairo_commands.specs.Answer.{written};
+ghost use Rattle.cairo_commands.specs.Programs.{listing_of, items_of};
+ghost use Rattle.cairo_commands.specs.Commands.Asm.{Assembles, asm_answer, asm_line};
+ghost use Rattle.cairo_commands.specs.Commands.Dis.{HoldsProgram, dis_answer, text_answer};
+
+use crate::Status;
+
+/// The text that `dis` writes for a program is assembled by `asm` to the same words, places and builtins, and so to the
+/// program file that is written for them.
+///
+/// The program file that `asm` writes for a text is shown by `dis` as its words, places and builtins. The labels of the
+/// text are gone. The names may be any, equal ones too, for each command reads what the other wrote last. A program
+/// disassembles into one list of items exactly, which is the one that is printed.
+pub fn again_laws()
+    ensures dis_then_asm { (program text copy : Name) (files : Files) (dis : HoldsProgram program files) →
+        asm_answer text copy (written (dis_answer program text files).writes files) ≡ record {
+          status = Status.Done;
+          writes = (copy, program_bytes dis.listed) ∷ [];
+          line = asm_line (length dis.listed.words);
+        } }
+    ensures asm_then_dis { (text program copy : Name) (files : Files) (asm : Assembles text files) →
+        dis_answer program copy (written (asm_answer text program files).writes files)
+        ≡ text_answer copy (listing_of (assembly_of asm.items)) }
+    ensures one_list { (p : Listing) (items : List Item) →
+        Disassembles p.words p.start p.end p.builtins.output p.builtins.range items ↔ (items ≡ items_of p) }
+{}

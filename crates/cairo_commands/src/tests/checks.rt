@@ -1,0 +1,528 @@
+//! `check`: tables from outside, the constraint that refuses them, and files that spell nothing.
+
+use super::vectors::{
+    ADDRESSES_WRAP, BOTH_RES_FLAGS, BOTH_RES_FLAGS_PROGRAM, BOTH_RES_FLAGS_PUBLIC, FOUR_STEPS,
+    FOUR_STEPS_PROGRAM, FOUR_STEPS_PUBLIC, JUMP_NOT_TAKEN, JUMP_NOT_TAKEN_PROGRAM,
+    JUMP_NOT_TAKEN_PUBLIC, JUMP_TAKEN, JUMP_TAKEN_PROGRAM, JUMP_TAKEN_PUBLIC, OFFSET_OUT_OF_RANGE,
+    OUTPUT_CELL, OUTPUT_CELL_PROGRAM, OUTPUT_CELL_PUBLIC, Part, RANGE_CELL, RANGE_CELL_PROGRAM,
+    RANGE_CELL_PUBLIC,
+};
+use super::{bytes_of, check, store_of, words_of};
+use crate::Status::{self, Done, Input, Limit, Missing, Refused, Sink, Store as StoreFault};
+use crate::perform;
+use file_port::MemorySink;
+use goldilocks::PRIME;
+use std::alloc::{AllocError, Global};
+use std::test::Fail;
+
+const CHECK: &[&str] = &["check", "P", "U", "T"];
+
+/// A change of a tables file.
+#[derive(Clone, Copy)]
+enum Change {
+    None,
+    /// Only so many bytes are left.
+    Cut(usize),
+    /// A byte follows.
+    Longer,
+    /// The byte at this place is another.
+    Byte(usize),
+    /// The number at this place behind the text is this one.
+    Number(usize, u64),
+    /// A range row of 1 with limbs of 0 stands behind the last state of the four steps, and the limbs are sorted last.
+    RangeRow,
+}
+
+use Change::{Byte, Cut, Longer, Number};
+
+/// The bytes of tables with these numbers, after a change.
+fn tables_bytes(alloc: Global, numbers: &[u64], change: Change) -> Result<Vec<u8>, AllocError> {
+    let mut bytes = Vec::from_slice(alloc, b"CAIROGT1")?;
+    let numbers = bytes_of(alloc, numbers)?;
+    bytes.extend_from_slice(&numbers)?;
+    match change {
+        Change::None => {}
+        Cut(length) => bytes.truncate(length),
+        Longer => bytes.push(0)?,
+        Change::RangeRow => {
+            let mut changed = Vec::from_slice(alloc, b"CAIROGT1")?;
+            let counts = bytes_of(alloc, &[4, 1, 0, 27, 0])?;
+            changed.extend_from_slice(&counts)?;
+            changed.extend_from_slice(bytes.get(48..1128).unwrap_or(&[]))?;
+            let row = bytes_of(alloc, &[1, 0, 0, 0])?;
+            changed.extend_from_slice(&row)?;
+            changed.extend_from_slice(bytes.get(1128..).unwrap_or(&[]))?;
+            changed.extend_from_slice(&[0; 24])?;
+            bytes = changed;
+        }
+        Byte(place) => {
+            if let Some(byte) = bytes.get_mut(place) {
+                *byte ^= 1;
+            }
+        }
+        Number(place, number) => {
+            for (k, byte) in number.to_le_bytes().iter().enumerate() {
+                if let Some(old) = bytes.get_mut(8 * place.min(1000) + 8 + k.min(7)) {
+                    *old = *byte;
+                }
+            }
+        }
+    }
+    Ok(bytes)
+}
+
+/// A program, a public input, the numbers of tables, a change of these, and what is answered.
+type Checked = (
+    &'static str,
+    &'static str,
+    &'static [u64],
+    Change,
+    Status,
+    &'static str,
+);
+
+/// The public input of the four steps with a cell that no step reads so.
+const CELL_ADDED: &str =
+    r#"{"ap_first":"0xc","ap_last":"0xf","cells":[["0xa","0xc"],["0xb","0x0"],["0xc","0xd"]],"range_begin":"0x0","range_count":0,"rc_max":32769,"rc_min":32766,"steps":4}"#;
+
+/// The program of the four steps with the end 5.
+const END_5: &str =
+    r#"{"builtins":[],"data":["0x40780017fff7fff","0x0","0x1104800180018000","0x4","0x10780017fff7fff","0x0","0x480680017fff8000","0x19","0x208b7fff7fff7ffe"],"end":5,"prime":"0xffffffff00000001","start":0}"#;
+
+/// The public input of the four steps with five of them.
+const FIVE_STEPS: &str =
+    r#"{"ap_first":"0xc","ap_last":"0xf","cells":[["0xa","0xc"],["0xb","0x0"]],"range_begin":"0x0","range_count":0,"rc_max":32769,"rc_min":32766,"steps":5}"#;
+
+/// The program of the four steps with another start.
+const START_1: &str =
+    r#"{"builtins":[],"data":["0x40780017fff7fff","0x0","0x1104800180018000","0x4","0x10780017fff7fff","0x0","0x480680017fff8000","0x19","0x208b7fff7fff7ffe"],"end":4,"prime":"0xffffffff00000001","start":1}"#;
+
+/// The program of the four steps with an end that is none of its words.
+const END_9: &str =
+    r#"{"builtins":[],"data":["0x40780017fff7fff","0x0","0x1104800180018000","0x4","0x10780017fff7fff","0x0","0x480680017fff8000","0x19","0x208b7fff7fff7ffe"],"end":9,"prime":"0xffffffff00000001","start":0}"#;
+
+/// The program of the four steps over another field.
+const OTHER_PRIME: &str =
+    r#"{"builtins":[],"data":["0x40780017fff7fff","0x0","0x1104800180018000","0x4","0x10780017fff7fff","0x0","0x480680017fff8000","0x19","0x208b7fff7fff7ffe"],"end":4,"prime":"0x11","start":0}"#;
+
+/// Public inputs of the four steps with another range count, first ap, last ap, and other bounds of the range values.
+const ONE_RANGE_CELL: &str =
+    r#"{"ap_first":"0xc","ap_last":"0xf","cells":[],"range_begin":"0x0","range_count":1,"rc_max":32769,"rc_min":32766,"steps":4}"#;
+
+const FIRST_AP_13: &str =
+    r#"{"ap_first":"0xd","ap_last":"0xf","cells":[],"range_begin":"0x0","range_count":0,"rc_max":32769,"rc_min":32766,"steps":4}"#;
+
+const LAST_AP_16: &str =
+    r#"{"ap_first":"0xc","ap_last":"0x10","cells":[],"range_begin":"0x0","range_count":0,"rc_max":32769,"rc_min":32766,"steps":4}"#;
+
+const LOWER_BOUND: &str =
+    r#"{"ap_first":"0xc","ap_last":"0xf","cells":[["0xa","0xc"],["0xb","0x0"]],"range_begin":"0x0","range_count":0,"rc_max":32769,"rc_min":32765,"steps":4}"#;
+
+const UPPER_BOUND: &str =
+    r#"{"ap_first":"0xc","ap_last":"0xf","cells":[["0xa","0xc"],["0xb","0x0"]],"range_begin":"0x0","range_count":0,"rc_max":32770,"rc_min":32766,"steps":4}"#;
+
+/// Tables without rows.
+const NO_ROWS: &[u64] = &[0, 0, 0, 0, 0, 1, 12, 12];
+
+const VERDICTS: &[Checked] = &[
+    (
+        FOUR_STEPS_PROGRAM,
+        FOUR_STEPS_PUBLIC,
+        FOUR_STEPS,
+        Change::None,
+        Done,
+        "check: accepted, 4 steps\n",
+    ),
+    (
+        JUMP_TAKEN_PROGRAM,
+        JUMP_TAKEN_PUBLIC,
+        JUMP_TAKEN,
+        Change::None,
+        Done,
+        "check: accepted, 2 steps\n",
+    ),
+    (
+        JUMP_NOT_TAKEN_PROGRAM,
+        JUMP_NOT_TAKEN_PUBLIC,
+        JUMP_NOT_TAKEN,
+        Change::None,
+        Done,
+        "check: accepted, 2 steps\n",
+    ),
+    (
+        OUTPUT_CELL_PROGRAM,
+        OUTPUT_CELL_PUBLIC,
+        OUTPUT_CELL,
+        Change::None,
+        Done,
+        "check: accepted, 4 steps\n",
+    ),
+    (
+        FOUR_STEPS_PROGRAM,
+        FOUR_STEPS_PUBLIC,
+        ADDRESSES_WRAP,
+        Change::None,
+        Done,
+        "check: accepted, 4 steps\n",
+    ),
+    // t1 in row 1 is 2
+    (
+        JUMP_TAKEN_PROGRAM,
+        JUMP_TAKEN_PUBLIC,
+        JUMP_TAKEN,
+        Number(70, 2),
+        Refused,
+        "check: refused: C24 row 1\n",
+    ),
+    (
+        FOUR_STEPS_PROGRAM,
+        CELL_ADDED,
+        FOUR_STEPS,
+        Change::None,
+        Refused,
+        "check: refused: M3 row 22\n",
+    ),
+    // t1 in row 1 is 1, and the public cell is wrong, too
+    (
+        FOUR_STEPS_PROGRAM,
+        CELL_ADDED,
+        FOUR_STEPS,
+        Number(70, 1),
+        Refused,
+        "check: refused: C24 row 1\n",
+    ),
+    (
+        BOTH_RES_FLAGS_PROGRAM,
+        BOTH_RES_FLAGS_PUBLIC,
+        BOTH_RES_FLAGS,
+        Change::None,
+        Refused,
+        "check: refused: C33 row 0\n",
+    ),
+    // the last pc is 6
+    (
+        END_5,
+        FOUR_STEPS_PUBLIC,
+        FOUR_STEPS,
+        Number(137, 6),
+        Refused,
+        "check: refused: C26 row 3\n",
+    ),
+    (
+        END_5,
+        FOUR_STEPS_PUBLIC,
+        FOUR_STEPS,
+        Change::None,
+        Refused,
+        "check: refused: P6 row 4\n",
+    ),
+    (
+        FOUR_STEPS_PROGRAM,
+        FIVE_STEPS,
+        FOUR_STEPS,
+        Change::None,
+        Refused,
+        "check: refused: P1 row 0\n",
+    ),
+    (
+        FOUR_STEPS_PROGRAM,
+        FOUR_STEPS_PUBLIC,
+        NO_ROWS,
+        Change::None,
+        Refused,
+        "check: refused: P1 row 0\n",
+    ),
+    // the last sorted range value is 32768
+    (
+        FOUR_STEPS_PROGRAM,
+        FOUR_STEPS_PUBLIC,
+        FOUR_STEPS,
+        Number(205, 32768),
+        Refused,
+        "check: refused: Q2 row 10\n",
+    ),
+    (
+        FOUR_STEPS_PROGRAM,
+        ONE_RANGE_CELL,
+        FOUR_STEPS,
+        Change::None,
+        Refused,
+        "check: refused: P2 row 0\n",
+    ),
+    (
+        START_1,
+        FOUR_STEPS_PUBLIC,
+        FOUR_STEPS,
+        Change::None,
+        Refused,
+        "check: refused: P3 row 0\n",
+    ),
+    (
+        FOUR_STEPS_PROGRAM,
+        FIRST_AP_13,
+        FOUR_STEPS,
+        Change::None,
+        Refused,
+        "check: refused: P4 row 0\n",
+    ),
+    // fp in row 0 is 13
+    (
+        FOUR_STEPS_PROGRAM,
+        FOUR_STEPS_PUBLIC,
+        FOUR_STEPS,
+        Number(7, 13),
+        Refused,
+        "check: refused: P5 row 0\n",
+    ),
+    (
+        FOUR_STEPS_PROGRAM,
+        LAST_AP_16,
+        FOUR_STEPS,
+        Change::None,
+        Refused,
+        "check: refused: P7 row 4\n",
+    ),
+    // a range row of 1 whose limbs are 0
+    (
+        FOUR_STEPS_PROGRAM,
+        ONE_RANGE_CELL,
+        FOUR_STEPS,
+        Change::RangeRow,
+        Refused,
+        "check: refused: V1 row 0\n",
+    ),
+    // the last sorted address is 20, the second sorted value is 0
+    (
+        FOUR_STEPS_PROGRAM,
+        FOUR_STEPS_PUBLIC,
+        FOUR_STEPS,
+        Number(192, 20),
+        Refused,
+        "check: refused: M1 row 25\n",
+    ),
+    (
+        FOUR_STEPS_PROGRAM,
+        FOUR_STEPS_PUBLIC,
+        FOUR_STEPS,
+        Number(143, 0),
+        Refused,
+        "check: refused: M2 row 0\n",
+    ),
+    (
+        FOUR_STEPS_PROGRAM,
+        LOWER_BOUND,
+        FOUR_STEPS,
+        Change::None,
+        Refused,
+        "check: refused: Q1 row 0\n",
+    ),
+    (
+        FOUR_STEPS_PROGRAM,
+        UPPER_BOUND,
+        FOUR_STEPS,
+        Change::None,
+        Refused,
+        "check: refused: Q3 row 11\n",
+    ),
+    // the first sorted 32768 is 32767
+    (
+        FOUR_STEPS_PROGRAM,
+        FOUR_STEPS_PUBLIC,
+        FOUR_STEPS,
+        Number(200, 32767),
+        Refused,
+        "check: refused: Q4 row 6\n",
+    ),
+];
+
+/// Changes of the tables of the four steps by which they are no tables file.
+const NO_TABLES: &[(Change, Status, &str)] = &[
+    (Cut(1655), Input, "input 3: Length\n"),
+    (Cut(0), Input, "input 3: Length\n"),
+    (Cut(47), Input, "input 3: Length\n"),
+    (Cut(48), Input, "input 3: Length\n"),
+    (Longer, Input, "input 3: Length\n"),
+    (Number(5, PRIME), Input, "input 3: NotField 48\n"),
+    (Number(205, PRIME), Input, "input 3: NotField 1648\n"),
+    (Byte(0), Input, "input 3: Magic\n"),
+    (Number(0, 1048577), Limit, "limit: input 3\n"),
+    (Number(1, 262145), Limit, "limit: input 3\n"),
+    (Number(2, 2097153), Limit, "limit: input 3\n"),
+    (Number(3, 7077889), Limit, "limit: input 3\n"),
+    (Number(4, 65537), Limit, "limit: input 3\n"),
+    (Number(0, 1048576), Input, "input 3: Length\n"),
+];
+
+/// Wide tables, and their verdict.
+const WIDE: &[(&str, &str, &[Part], Status, &str)] = &[
+    (
+        RANGE_CELL_PROGRAM,
+        RANGE_CELL_PUBLIC,
+        RANGE_CELL,
+        Done,
+        "check: accepted, 3 steps\n",
+    ),
+    (
+        FOUR_STEPS_PROGRAM,
+        FOUR_STEPS_PUBLIC,
+        OFFSET_OUT_OF_RANGE,
+        Refused,
+        "check: refused: Q4 row 1\n",
+    ),
+];
+
+/// The bytes of tables of these parts.
+fn wide_bytes(alloc: Global, parts: &[Part]) -> Result<Vec<u8>, AllocError> {
+    let mut bytes = Vec::from_slice(alloc, b"CAIROGT1")?;
+    for part in parts {
+        match part {
+            Part::Numbers(numbers) => {
+                for number in *numbers {
+                    bytes.extend_from_slice(&number.to_le_bytes())?;
+                }
+            }
+            Part::Run(first, count) => {
+                for k in 0..*count {
+                    bytes.extend_from_slice(&first.saturating_add(k).to_le_bytes())?;
+                }
+            }
+            Part::Cells(first, count) => {
+                for k in 0..*count {
+                    bytes.extend_from_slice(&first.saturating_add(k).to_le_bytes())?;
+                    bytes.extend_from_slice(&[0; 8])?;
+                }
+            }
+        }
+    }
+    Ok(bytes)
+}
+
+/// Programs and public inputs of which one spells nothing, and what is answered.
+const NO_INPUTS: &[(&str, &str, Status, &str)] = &[
+    (
+        r#"{"prime":"0x11"}"#,
+        FOUR_STEPS_PUBLIC,
+        Input,
+        "input 1: Prime\n",
+    ),
+    ("", "", Input, "input 1: Json\n"),
+    (FOUR_STEPS_PROGRAM, "", Input, "input 2: Json\n"),
+    (FOUR_STEPS_PROGRAM, "7", Input, "input 2: Key steps\n"),
+    (
+        FOUR_STEPS_PROGRAM,
+        r#"{"steps":0}"#,
+        Input,
+        "input 2: Range steps\n",
+    ),
+    (
+        FOUR_STEPS_PROGRAM,
+        r#"{"steps":1048577}"#,
+        Limit,
+        "limit: input 2\n",
+    ),
+    (
+        FOUR_STEPS_PROGRAM,
+        r#"{"steps":1}"#,
+        Input,
+        "input 2: Key ap_first\n",
+    ),
+];
+
+#[test]
+fn tables_have_their_verdict(rt: HostRuntime) -> Result<(), Fail> {
+    let alloc = rt.alloc();
+    for (program, public, numbers, change, status, line) in VERDICTS {
+        let tables = tables_bytes(alloc, numbers, *change)?;
+        let files: [(&str, &[u8]); 3] = [
+            ("P", program.as_bytes()),
+            ("U", public.as_bytes()),
+            ("T", &tables),
+        ];
+        let mut store = store_of(alloc, &files, &[])?;
+        check(&rt, alloc, line, CHECK, &mut store, (*status, line))?;
+    }
+    Ok(())
+}
+
+#[test]
+fn wide_tables_have_their_verdict(rt: HostRuntime) -> Result<(), Fail> {
+    let alloc = rt.alloc();
+    for (program, public, parts, status, line) in WIDE {
+        let tables = wide_bytes(alloc, parts)?;
+        let files: [(&str, &[u8]); 3] = [
+            ("P", program.as_bytes()),
+            ("U", public.as_bytes()),
+            ("T", &tables),
+        ];
+        let mut store = store_of(alloc, &files, &[])?;
+        check(&rt, alloc, line, CHECK, &mut store, (*status, line))?;
+    }
+    Ok(())
+}
+
+#[test]
+fn files_that_are_none_are_told(rt: HostRuntime) -> Result<(), Fail> {
+    let alloc = rt.alloc();
+    for (change, status, line) in NO_TABLES {
+        let tables = tables_bytes(alloc, FOUR_STEPS, *change)?;
+        let files: [(&str, &[u8]); 3] = [
+            ("P", FOUR_STEPS_PROGRAM.as_bytes()),
+            ("U", FOUR_STEPS_PUBLIC.as_bytes()),
+            ("T", &tables),
+        ];
+        let mut store = store_of(alloc, &files, &[])?;
+        check(&rt, alloc, line, CHECK, &mut store, (*status, line))?;
+    }
+    for (program, public, status, line) in NO_INPUTS {
+        // No tables are there, which is not looked at.
+        let files: [(&str, &[u8]); 2] = [("P", program.as_bytes()), ("U", public.as_bytes())];
+        let mut store = store_of(alloc, &files, &[])?;
+        check(&rt, alloc, line, CHECK, &mut store, (*status, line))?;
+    }
+    Ok(())
+}
+
+/// Which files are there, which calls of the store fail, and what is answered.
+const FAULTS: &[(&[&str], &[u32], Status, &str)] = &[
+    (&["U", "T"], &[], Missing, "missing: input 1\n"),
+    (&["P", "T"], &[], Missing, "missing: input 2\n"),
+    (&["P", "U"], &[], Missing, "missing: input 3\n"),
+    (&["P", "U", "T"], &[2], StoreFault, "store fault: P\n"),
+    (&["P", "U", "T"], &[4], StoreFault, "store fault: U\n"),
+    (&["P", "U", "T"], &[9], StoreFault, "store fault: T\n"),
+    (&["P", "U", "T"], &[10], Done, "check: accepted, 4 steps\n"),
+];
+
+/// The bytes of a file of the four steps.
+fn file_of(alloc: Global, name: &str) -> Result<Vec<u8>, AllocError> {
+    match name {
+        "P" => Vec::from_slice(alloc, FOUR_STEPS_PROGRAM.as_bytes()),
+        "U" => Vec::from_slice(alloc, FOUR_STEPS_PUBLIC.as_bytes()),
+        _ => tables_bytes(alloc, FOUR_STEPS, Change::None),
+    }
+}
+
+#[test]
+fn faults_of_a_check_are_told(rt: HostRuntime) -> Result<(), Fail> {
+    let alloc = rt.alloc();
+    for (names, fails, status, line) in FAULTS {
+        let mut files = Vec::new(alloc);
+        for name in *names {
+            files.push((String::from_str(alloc, name)?, file_of(alloc, name)?))?;
+        }
+        let mut store = file_port::MemoryStore::new(files, Vec::from_slice(alloc, fails)?);
+        check(&rt, alloc, line, CHECK, &mut store, (*status, line))?;
+    }
+    let tables = tables_bytes(alloc, FOUR_STEPS, Change::None)?;
+    let files: [(&str, &[u8]); 3] = [
+        ("P", FOUR_STEPS_PROGRAM.as_bytes()),
+        ("U", FOUR_STEPS_PUBLIC.as_bytes()),
+        ("T", &tables),
+    ];
+    let mut store = store_of(alloc, &files, &[])?;
+    let words = words_of(alloc, CHECK)?;
+    let mut sink = MemorySink::new(alloc, Vec::from_slice(alloc, &[1])?);
+    assert_eq!(rt; perform(alloc, &words, &mut store, &mut sink), Sink);
+    assert_eq!(rt; sink.bytes(), b"".as_slice());
+    Ok(())
+}
