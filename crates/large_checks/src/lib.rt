@@ -1,0 +1,7 @@
+//! Calls of `check` on files that are too large to stand among the tests of the commands.
+#![tactic(auto)]
+
+#[cfg(test)]
+mod loop_of_twenty;
+#[cfg(test)]
+mod tests;
