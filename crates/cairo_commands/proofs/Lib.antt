@@ -4,12 +4,10 @@ pub mod Refusals
 pub mod RunFiles
 pub mod ProgramReadings
 pub mod TableReadings
-pub mod WalkSteps
 pub mod WalkTheorem
 pub mod AsmTheorem
 pub mod DisTheorem
 pub mod CheckTheorem
-pub mod WalkLaws
 pub mod NameLists
 pub mod NumberWords
 pub mod CarryOut

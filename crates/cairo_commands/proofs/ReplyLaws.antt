@@ -15,7 +15,8 @@ use Rattle.cairo_commands.specs.Status.{IsDecided}
 use Rattle.cairo_commands.specs.RunFiles.{trace_input, trace_read, memory_input, cells_read}
 use Rattle.cairo_commands.specs.Programs.{text_input, text_read, program_input, program_read}
 use Rattle.cairo_commands.specs.TableInputs.{public_input, public_read, tables_input, tables_read}
-use Rattle.cairo_commands.specs.Commands.Walk.{first_refused, walked, walk_answer}
+use Rattle.casm_word.specs.Run.{first_refused}
+use Rattle.cairo_commands.specs.Commands.Walk.{walked, walk_answer}
 use Rattle.cairo_commands.specs.Commands.Asm.{asm_answer}
 use Rattle.cairo_commands.specs.Commands.Dis.{dis_answer}
 use Rattle.cairo_commands.specs.Commands.Check.{checked, check_answer}

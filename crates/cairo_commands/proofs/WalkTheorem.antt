@@ -7,8 +7,8 @@ use Rattle.std.specs.List.{AllByRecursion}
 use Rattle.file_port.specs.Files.{Name, Files}
 use Rattle.file_port.specs.Seen.{Seen, SinkSeen}
 use Rattle.casm_word.specs.Transition.{Memory, Registers, Outcome, Next, NoCell, BadWord, CallPc, CallFp, NotEqual, outcome, next}
-use Rattle.casm_word.specs.Run.{steps}
-use Rattle.casm_word.proofs.Outcomes.{outcome-next}
+use Rattle.casm_word.specs.Run.{steps, refused_from, first_refused}
+use Rattle.casm_word.proofs.RefusedRuns.{IsStep, AreNext-from_none, none-from_AreNext, IsFirstRefused-from, refused_from-first}
 use Rattle.cairo_commands.specs.declared.status.Status.{Status}
 use Rattle.cairo_commands.specs.declared.status.Status.TheVariants.{Done, Refused}
 use Rattle.trace_files.specs.MemoryFile.{memory_of}
@@ -16,119 +16,11 @@ use Rattle.cairo_commands.specs.Answer.{Answer, says}
 use Rattle.cairo_commands.specs.Reading.{◌>>=◌, read_as}
 use Rattle.cairo_commands.specs.RunFiles.{trace_input, memory_input, trace_read, cells_read}
 use Rattle.cairo_commands.specs.Perform.{Replied}
-use Rattle.cairo_commands.specs.Commands.Walk.{same_registers, is_next, refused_from, first_refused, walked, walk_answer, steps_line, refused_line, SpellsWalk, WalksLegally, WalkIsRefused, WalkMeans}
+use Rattle.cairo_commands.specs.Commands.Walk.{walked, walk_answer, steps_line, refused_line, SpellsWalk, WalksLegally, WalkIsRefused, WalkMeans}
 use Rattle.trace_files.proofs.TraceFile.{length-spelled_trace}
 use Rattle.trace_files.proofs.MemoryFile.{length-spelled_memory}
 use Rattle.cairo_commands.proofs.RunFiles.{trace_read-spelled, SpellsTrace-from_read, cells_read-spelled, SpellsMemory-from_read}
 use Rattle.cairo_commands.proofs.Readings.{IsOwn, Done_is_own, Refused_is_own, IsRead, read_ended, then_read}
-
--- ---- no step is refused exactly where each is the transition
-
-same_registers-true : (s t : Registers) → same_registers s t ≡ true → s ≡ t
-same_registers-true s t same =
-    let both = and_parts _ _ same in
-    let front = and_parts _ _ both.0 in
-    let pc = eqb-true s.pc t.pc front.0 in
-    let ap_same = eqb-true s.ap t.ap front.1 in
-    let fp = eqb-true s.fp t.fp both.1 in
-    λ i. record { pc = pc i; ap = ap_same i; fp = fp i }
-
-pub is_next-true : (o : Outcome) (t : Registers) → is_next o t ≡ true → o ≡ Next t
-is_next-true (Next s) t same = ap Next (same_registers-true s t same)
-is_next-true (NoCell _) t same = cc
-is_next-true (BadWord _) t same = cc
-is_next-true CallPc t same = cc
-is_next-true CallFp t same = cc
-is_next-true NotEqual t same = cc
-
-pub is_next-same : (o : Outcome) (t : Registers) → o ≡ Next t → is_next o t ≡ true
-is_next-same o t same =
-    ap (λ x. is_next x t) same
-    ∙ and_from _ _ (and_from _ _ (eq-eqb t.pc t.pc refl) (eq-eqb t.ap t.ap refl)) (eq-eqb t.fp t.fp refl)
-
-abbrev pub AreNext : Memory → List (Registers × Registers) → Type 0
-AreNext m pairs = AllByRecursion (λ step. next m step.0 ≡ Some step.1) pairs
-
-kept_none : (b : Bool) (rest : Option (ℕ × Outcome)) (refused : ℕ × Outcome) → cond b rest (Some refused) ≡ None → (b ≡ true) × (rest ≡ None)
-kept_none true rest refused none = (refl, none)
-kept_none false rest refused none = cc
-
-pub AreNext-from_none : (m : Memory) (i : ℕ) (pairs : List (Registers × Registers)) → refused_from m i pairs ≡ None → AreNext m pairs
-AreNext-from_none m i [] none = tt
-AreNext-from_none m i (step ∷ rest) none =
-    let parts = kept_none (is_next (outcome m step.0) step.1) (refused_from m (i + 1) rest) (i, outcome m step.0) none in
-    ((outcome-next m step.0 step.1).0 (is_next-true (outcome m step.0) step.1 parts.0), AreNext-from_none m (i + 1) rest parts.1)
-
-pub none-from_AreNext : (m : Memory) (i : ℕ) (pairs : List (Registers × Registers)) → AreNext m pairs → refused_from m i pairs ≡ None
-none-from_AreNext m i [] all = refl
-none-from_AreNext m i (step ∷ rest) all =
-    let here = is_next-same (outcome m step.0) step.1 ((outcome-next m step.0 step.1).1 all.0) in
-    rw here (none-from_AreNext m (i + 1) rest all.1)
-
--- ---- the first step that isn't the transition
-
-abbrev pub IsStep : Memory → Registers × Registers → Type 0
-IsStep m step = next m step.0 ≡ Some step.1
-
--- a step of some, with the steps before it
-pub record IsFirstRefused (m : Memory) (pairs : List (Registers × Registers)) (n : ℕ) (o : Outcome) : Type 0 where
-  pub pair : Registers × Registers
-  pub at : slice_get pairs n ≡ Some pair
-  pub before : AllByRecursion (IsStep m) (take n pairs)
-  pub refused : next m pair.0 ≢ Some pair.1
-  pub cause : o ≡ outcome m pair.0
-
--- which way the test of one step went
-chosen : (b : Bool) (rest : Option (ℕ × Outcome)) (here there : ℕ × Outcome) → cond b rest (Some here) ≡ Some there → ((b ≡ true) × (rest ≡ Some there)) ⊎ ((b ≡ false) × (here ≡ there))
-chosen true rest here there e = inl (refl, e)
-chosen false rest here there e = inr (refl, cc)
-
-IsFirstRefused-from : (m : Memory) (i : ℕ) (pairs : List (Registers × Registers)) (k : ℕ) (o : Outcome) → refused_from m i pairs ≡ Some (k, o) → (n : ℕ) × (k ≡ i + n) × IsFirstRefused m pairs n o
-IsFirstRefused-from m i [] k o e = cc
-IsFirstRefused-from m i (step ∷ rest) k o e =
-    elim (chosen (is_next (outcome m step.0) step.1) (refused_from m (i + 1) rest) (i, outcome m step.0) (k, o) e) [
-      | inl later ↦
-          let behind = IsFirstRefused-from m (i + 1) rest k o later.1 in (
-            suc behind.0,
-            omega (arith, behind.1),
-            record {
-              pair = behind.2.pair;
-              at = behind.2.at;
-              before = ((outcome-next m step.0 step.1).0 (is_next-true (outcome m step.0) step.1 later.0), behind.2.before);
-              refused = behind.2.refused;
-              cause = behind.2.cause;
-            },
-          )
-      | inr now ↦
-          let place : i ≡ k = ap (λ (p : ℕ × Outcome). p.0) now.1 in (
-            zero,
-            omega arith,
-            record {
-              pair = step;
-              at = refl;
-              before = tt;
-              refused = λ goes. both_ways (is_next (outcome m step.0) step.1) now.0 (is_next-same (outcome m step.0) step.1 ((outcome-next m step.0 step.1).1 goes));
-              cause = sym (ap (λ (p : ℕ × Outcome). p.1) now.1);
-            },
-          )
-    ]
-
-not_next : (b : Bool) → (b ≡ true → ⊥) → b ≡ false
-not_next true never = absurd (never refl)
-not_next false never = refl
-
-refused_from-first : (m : Memory) (i : ℕ) (pairs : List (Registers × Registers)) (n : ℕ) (pair : Registers × Registers) → slice_get pairs n ≡ Some pair → AllByRecursion (IsStep m) (take n pairs) → next m pair.0 ≢ Some pair.1 → refused_from m i pairs ≡ Some (i + n, outcome m pair.0)
-refused_from-first m i [] n pair at before refused = cc
-refused_from-first m i (step ∷ rest) zero pair at before refused =
-    let same : step ≡ pair = cc in
-    let other : next m step.0 ≢ Some step.1 = subst (λ (p : Registers × Registers). next m p.0 ≢ Some p.1) (sym same) refused in
-    let fails = not_next (is_next (outcome m step.0) step.1) (λ goes. other ((outcome-next m step.0 step.1).0 (is_next-true (outcome m step.0) step.1 goes))) in
-    let place : i + zero ≡ i = omega arith in
-    rw (fails, place) (ap (λ (p : Registers × Registers). Some (i, outcome m p.0)) same)
-refused_from-first m i (step ∷ rest) (suc n) pair at before refused =
-    let here = is_next-same (outcome m step.0) step.1 ((outcome-next m step.0 step.1).1 before.0) in
-    let place : i + suc n ≡ i + 1 + n = omega arith in
-    rw (here, place) (refused_from-first m (i + 1) rest n pair at before.1 refused)
 
 -- ---- what `walk` answers
 

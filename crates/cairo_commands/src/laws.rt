@@ -1,12 +1,9 @@
 //! Laws of the definitions: functions that do nothing, and whose contracts say what always holds.
 
-ghost use Rattle.std.specs.Prelude.{◌≡◌, ◌≢◌, ℕ, ◌+◌, ◌^◌, ◌<◌, ◌≤◌, ◌↔◌, List, [], ◌∷◌, ◌++◌, codes, map, String, Some, None, length, slice_index_or};
-ghost use Rattle.casm_word.specs.Transition.{Memory, Registers, Outcome, next, outcome};
-ghost use Rattle.casm_word.specs.Run.{LegalRun};
+ghost use Rattle.std.specs.Prelude.{◌≡◌, ◌≢◌, ℕ, ◌^◌, ◌<◌, ◌↔◌, List, [], ◌∷◌, ◌++◌, codes, map, String, Some, None, length};
 ghost use Rattle.std.specs.declared.alloc.Global.{Global};
 ghost use Rattle.file_port.specs.Files.{Name, Files};
 ghost use Rattle.cairo_commands.specs.Request.{IsNumber, number_in, most_workers, split_workers};
-ghost use Rattle.cairo_commands.specs.Commands.Walk.{first_refused};
 ghost use Rattle.cairo_commands.specs.Status.{IsDecided};
 ghost use Rattle.cairo_commands.specs.Reply.{reply, request_of, outputs_of};
 ghost use Rattle.cairo_commands.specs.Perform.{CountsNoFault};
@@ -27,22 +24,6 @@ pub fn number_laws()
     ensures no_option { (names : List Name) (word last : Name) → word ≢ codes "--workers" →
         split_workers (names ++ word ∷ last ∷ []) ≡ Some (names ++ word ∷ last ∷ [], 1) }
     ensures few { (words : List Name) → length words < 2 → split_workers words ≡ Some (words, 1) }
-{}
-
-/// No step is refused exactly where the states are a legal run. A step that is refused is the first that is not the
-/// transition, with what the transition comes to there.
-pub fn walk_laws()
-    ensures none { (m : Memory) (states : List Registers) → 2 ≤ length states →
-        ((first_refused m states ≡ None) ↔ LegalRun m states) }
-    ensures place { (m : Memory) (states : List Registers) (k : ℕ) (o : Outcome) →
-        first_refused m states ≡ Some (k, o) → k + 1 < length states }
-    ensures found { (m : Memory) (states : List Registers) (k : ℕ) (o : Outcome) (d : Registers) →
-        first_refused m states ≡ Some (k, o) →
-        (o ≡ outcome m (slice_index_or states k d))
-        × (next m (slice_index_or states k d) ≢ Some (slice_index_or states (k + 1) d)) }
-    ensures first { (m : Memory) (states : List Registers) (k : ℕ) (o : Outcome) (d : Registers) →
-        first_refused m states ≡ Some (k, o) → (j : ℕ) → j < k →
-        next m (slice_index_or states j d) ≡ Some (slice_index_or states (j + 1) d) }
 {}
 
 /// Each reply is decided by the words and the files. One that ends with `Done` writes the outputs of its command, in their

@@ -30,7 +30,7 @@ use commands::dis::dis;
 use commands::walk::walk;
 use ending::{Refusal, Work};
 use file_port::{Sink, Store};
-pub use laws::{number_laws, reply_laws, sure_laws, walk_laws};
+pub use laws::{number_laws, reply_laws, sure_laws};
 use outputs::write_outputs;
 use print::print;
 pub use status::Status;

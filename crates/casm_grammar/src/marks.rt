@@ -1,6 +1,7 @@
 //! Single tokens.
 ghost use Rattle.std.specs.Prelude.{◌≡◌, ◌≤◌, length, IfOk};
-ghost use Rattle.casm_grammar.specs.Readers.{sign_code, word_code, directive_code, after_sign, after_word, after_directive, expect_sign, expect_word, number_in, number_up_to, zero_in, label_in, nothing_in};
+ghost use Rattle.casm_grammar.specs.Readers.{sign_code, word_code, directive_code, after_sign, after_word, after_directive};
+ghost use Rattle.casm_grammar.specs.Readers.{expect_sign, expect_word, number_in, number_up_to, zero_in, label_in, nothing_in};
 ghost use Rattle.casm_grammar.specs.Seen.{seen};
 ghost use Rattle.casm_grammar.specs.Views.{seen_rest, seen_after, seen_all, seen_reading};
 

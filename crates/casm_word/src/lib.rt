@@ -10,7 +10,7 @@ mod text;
 pub use decoder::decode;
 pub use encoder::encode;
 use goldilocks::Felt;
-pub use laws::{legal_run_laws, outcome_laws};
+pub use laws::{legal_run_laws, outcome_laws, refused_step_laws};
 pub use stepper::step;
 
 /// What is added to an offset in a word, 2^15.

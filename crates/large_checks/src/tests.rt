@@ -1,7 +1,7 @@
-//! Tables of a long run, and files above the most bytes that they may have.
+//! Tables of a long run, files above the most bytes that they may have, and public inputs of the most cells and more.
 
 use crate::loop_of_twenty::{FILLERS, FRONT, PROGRAM, PUBLIC, SORTED};
-use cairo_commands::Status::{self, Done, Limit};
+use cairo_commands::Status::{self, Done, Input, Limit};
 use cairo_commands::perform;
 use file_port::{MemorySink, MemoryStore};
 use std::alloc::{AllocError, Global};
@@ -85,5 +85,40 @@ fn longer_files_are_above_the_limit(rt: HostRuntime) -> Result<(), Fail> {
     let public = Vec::from_slice(alloc, PUBLIC.as_bytes())?;
     let files = [program, public, zeros(alloc, 464519241)?];
     check(&rt, alloc, files, (Limit, "limit: input 3\n"))?;
+    Ok(())
+}
+
+/// The members of a public input before its cells.
+const MEMBERS: &[u8] =
+    br#"{"steps":4,"ap_first":"0xc","ap_last":"0xf","rc_min":32766,"rc_max":32769,"range_begin":"0x0","range_count":0,"cells":["#;
+
+/// A public input with so many entries of `cells`, at least one. Each is `0`, which is no cell.
+fn many_cells(alloc: Global, count: usize) -> Result<Vec<u8>, AllocError> {
+    // 262145 entries with their commas have 524289 bytes.
+    let mut bytes = Vec::with_capacity(alloc, 600000)?;
+    bytes.extend_from_slice(MEMBERS)?;
+    bytes.push(b'0')?;
+    for _ in 1..count {
+        bytes.extend_from_slice(b",0")?;
+    }
+    bytes.extend_from_slice(b"]}")?;
+    Ok(bytes)
+}
+
+/// How many entries `cells` has, and what is answered.
+const MANY_CELLS: &[(usize, Status, &str)] = &[
+    (262144, Input, "input 2: Cell 0\n"),
+    (262145, Limit, "limit: input 2\n"),
+];
+
+#[test]
+fn cells_are_counted_before_they_are_read(rt: HostRuntime) -> Result<(), Fail> {
+    let alloc = rt.alloc();
+    for (count, status, line) in MANY_CELLS {
+        let program = Vec::from_slice(alloc, PROGRAM.as_bytes())?;
+        let public = many_cells(alloc, *count)?;
+        let files = [program, public, Vec::new(alloc)];
+        check(&rt, alloc, files, (*status, line))?;
+    }
     Ok(())
 }

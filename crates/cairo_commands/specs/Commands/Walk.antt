@@ -1,11 +1,11 @@
 -- `walk TRACE MEMORY`: is each step of a trace the transition of the machine in that memory? Its words, its inputs,
 -- its answer, and what its endings mean. Own, but where another source is named.
-use Rattle.std.specs.Prelude.{◌≡◌, ◌≢◌, ◌↔◌, ℕ, ◌+◌, ◌-◌, ◌==◌, Bool, false, ◌&&◌, All, List, [], ◌∷◌, ◌++◌, length, take, slice_get, Option, Some, None, Ok, if◌then◌else◌, codes}
+use Rattle.std.specs.Prelude.{◌≡◌, ◌≢◌, ◌↔◌, ℕ, ◌-◌, All, List, [], ◌∷◌, ◌++◌, length, take, slice_get, Option, Some, None, Ok, if◌then◌else◌, codes}
 use Rattle.std.specs.Fmt.{decimal}
 use Rattle.std.specs.Io.KnownBytes.{Appends}
 use Rattle.file_port.specs.Files.{Name, Files, file_at}
-use Rattle.casm_word.specs.Transition.{Registers, Memory, Outcome, Next, NoCell, BadWord, CallPc, CallFp, NotEqual, outcome, next}
-use Rattle.casm_word.specs.Run.{steps, LegalRun}
+use Rattle.casm_word.specs.Transition.{Registers, Outcome, outcome, next}
+use Rattle.casm_word.specs.Run.{steps, LegalRun, first_refused}
 use Rattle.cairo_commands.specs.declared.status.Status.{Status}
 use Rattle.cairo_commands.specs.declared.status.Status.TheVariants.{Done, Refused}
 use Rattle.casm_word.specs.Text.{step_text}
@@ -34,29 +34,6 @@ abbrev pub refused_line : ℕ → Outcome → List ℕ
 refused_line step found = codes "walk: refused at step " ++ (decimal step ++ (codes ": " ++ (step_text found ++ codes "\n")))
 
 -- ---- its answer
-
--- Whether two states have the same registers. Own.
-abbrev pub same_registers : Registers → Registers → Bool
-same_registers s t = (s.pc == t.pc) && (s.ap == t.ap) && (s.fp == t.fp)
-
--- Whether what a step came to is this state. Own.
-abbrev pub is_next : Outcome → Registers → Bool
-is_next (Next s) t = same_registers s t
-is_next (NoCell address) t = false
-is_next (BadWord fault) t = false
-is_next CallPc t = false
-is_next CallFp t = false
-is_next NotEqual t = false
-
--- The first of these steps, numbered from i on, that isn't the transition, with its number and what the
--- transition comes to in its place. Own.
-abbrev pub refused_from : Memory → ℕ → List (Registers × Registers) → Option (ℕ × Outcome)
-refused_from m i [] = None
-refused_from m i (step ∷ rest) = if is_next (outcome m step.0) step.1 then refused_from m (i + 1) rest else Some (i, outcome m step.0)
-
--- The first step between the states that isn't the transition. Own.
-unfoldable pub first_refused : Memory → List Registers → Option (ℕ × Outcome)
-first_refused m states = refused_from m 0 (steps states)
 
 -- What `walk` answers of the states and the cells that its files spell. Own.
 abbrev pub walked : List Registers → Option (ℕ × Outcome) → Answer

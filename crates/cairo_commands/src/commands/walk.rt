@@ -2,6 +2,7 @@
 
 ghost use Rattle.std.specs.Prelude.{◌≡◌, IfSome, IfOk, map, option_map, string_bytes};
 ghost use Rattle.casm_word.specs.Transition.{outcome_of, registers};
+ghost use Rattle.casm_word.specs.Run.{first_refused, is_next};
 ghost use Rattle.trace_files.specs.MemoryFile.{memory_of, as_cells};
 ghost use Rattle.trace_files.specs.CellList.{listed};
 ghost use Rattle.cairo_commands.specs.Commands.Walk as spec;
@@ -65,7 +66,7 @@ pub(crate) fn walk<'w, S: Store>(
 /// The first step that is not the transition, with what the transition comes to.
 fn first_refused(cells: &CellList, states: &[State]) -> Option<(usize, StepResult)>
     ensures { option_map (λ refused. (refused.0, outcome_of refused.1)) result
-        ≡ spec.first_refused (memory_of (as_cells (listed cells.now))) (map registers states.now) }
+        ≡ first_refused (memory_of (as_cells (listed cells.now))) (map registers states.now) }
 {
     for i in 1..states.len() {
         let found = step(cells, states[i - 1]);
@@ -79,7 +80,7 @@ fn first_refused(cells: &CellList, states: &[State]) -> Option<(usize, StepResul
 /// Whether a step came to the state.
 #[tactic(auto, unfolding(casm_word::specs::Transition::outcome_of, casm_word::specs::Transition::registers))]
 fn is_next(found: &StepResult, to: State) -> bool
-    ensures { result ≡ spec.is_next (outcome_of found.now) (registers to) }
+    ensures { result ≡ is_next (outcome_of found.now) (registers to) }
 {
     match found {
         StepResult::Next(next) => *next == to,

@@ -13,6 +13,7 @@ use crate::perform;
 use file_port::MemorySink;
 use goldilocks::PRIME;
 use std::alloc::{AllocError, Global};
+use std::process::Abort;
 use std::test::Fail;
 
 const CHECK: &[&str] = &["check", "P", "U", "T"];
@@ -405,9 +406,13 @@ const NO_INPUTS: &[(&str, &str, Status, &str)] = &[
         Input,
         "input 1: Prime\n",
     ),
+    (OTHER_PRIME, FOUR_STEPS_PUBLIC, Input, "input 1: Prime\n"),
+    (END_9, FOUR_STEPS_PUBLIC, Input, "input 1: Label end\n"),
     ("", "", Input, "input 1: Json\n"),
     (FOUR_STEPS_PROGRAM, "", Input, "input 2: Json\n"),
     (FOUR_STEPS_PROGRAM, "7", Input, "input 2: Key steps\n"),
+    (FOUR_STEPS_PROGRAM, "[]", Input, "input 2: Key steps\n"),
+    (FOUR_STEPS_PROGRAM, "{}", Input, "input 2: Key steps\n"),
     (
         FOUR_STEPS_PROGRAM,
         r#"{"steps":0}"#,
@@ -426,7 +431,102 @@ const NO_INPUTS: &[(&str, &str, Status, &str)] = &[
         Input,
         "input 2: Key ap_first\n",
     ),
+    (
+        FOUR_STEPS_PROGRAM,
+        r#"{"steps":1,"ap_first":"0x1"}"#,
+        Input,
+        "input 2: Key ap_last\n",
+    ),
+    (
+        FOUR_STEPS_PROGRAM,
+        r#"{"steps":1,"ap_first":"0x1","ap_last":"0x1"}"#,
+        Input,
+        "input 2: Key rc_min\n",
+    ),
+    (
+        FOUR_STEPS_PROGRAM,
+        r#"{"steps":1,"ap_first":"0x1","ap_last":"0x1","rc_min":0}"#,
+        Input,
+        "input 2: Key rc_max\n",
+    ),
+    (
+        FOUR_STEPS_PROGRAM,
+        r#"{"steps":1,"ap_first":"0x1","ap_last":"0x1","rc_min":0,"rc_max":0}"#,
+        Input,
+        "input 2: Key range_begin\n",
+    ),
+    (
+        FOUR_STEPS_PROGRAM,
+        r#"{"steps":1,"ap_first":"0x1","ap_last":"0x1","rc_min":0,"rc_max":0,"range_begin":"0x0"}"#,
+        Input,
+        "input 2: Key range_count\n",
+    ),
+    (
+        FOUR_STEPS_PROGRAM,
+        r#"{"steps":1,"ap_first":"0x1","ap_last":"0x1","rc_min":0,"rc_max":0,"range_begin":"0x0","range_count":0}"#,
+        Input,
+        "input 2: Key cells\n",
+    ),
 ];
+
+/// Members behind those of the public input of the four steps, and what is answered without tables. Of equal keys the
+/// last one counts. Where there is no fault, the tables are missing.
+const MEMBERS: &[(&str, Status, &str)] = &[
+    (r#""end":[0]"#, Missing, "missing: input 3\n"),
+    (r#""steps":0"#, Input, "input 2: Range steps\n"),
+    (r#""steps":0,"steps":4"#, Missing, "missing: input 3\n"),
+    (r#""steps":"4""#, Input, "input 2: Key steps\n"),
+    (r#""steps":4.0"#, Input, "input 2: Key steps\n"),
+    (r#""steps":1048577"#, Limit, "limit: input 2\n"),
+    (r#""ap_first":12"#, Input, "input 2: Key ap_first\n"),
+    (r#""ap_last":"0xg""#, Input, "input 2: Key ap_last\n"),
+    (r#""rc_min":-1"#, Input, "input 2: Key rc_min\n"),
+    (r#""rc_min":32770"#, Input, "input 2: Range rc_min\n"),
+    (r#""rc_max":4.0"#, Input, "input 2: Key rc_max\n"),
+    (r#""rc_max":65536"#, Input, "input 2: Range rc_max\n"),
+    (
+        r#""range_begin":"0xffffffff00000001""#,
+        Input,
+        "input 2: Key range_begin\n",
+    ),
+    (r#""range_count":null"#, Input, "input 2: Key range_count\n"),
+    (r#""range_count":262145"#, Limit, "limit: input 2\n"),
+    (r#""cells":{}"#, Input, "input 2: Key cells\n"),
+    (r#""cells":[7]"#, Input, "input 2: Cell 0\n"),
+    (
+        r#""cells":[["0xa","0xc","0x1"]]"#,
+        Input,
+        "input 2: Cell 0\n",
+    ),
+    (
+        r#""cells":[["0xa","0xc"],["0xb"]]"#,
+        Input,
+        "input 2: Cell 1\n",
+    ),
+    (
+        r#""cells":[["0xa","0xc"],["0xa","0xd"]]"#,
+        Input,
+        "input 2: Order 1\n",
+    ),
+    (
+        r#""cells":[["0xa","0xc"],["0xb","0x0"],["10","0xd"]]"#,
+        Input,
+        "input 2: Order 2\n",
+    ),
+];
+
+/// What is answered of a public input, with the program of the four steps and without tables.
+fn check_public(
+    rt: &impl Abort,
+    alloc: Global,
+    row: &str,
+    public: &[u8],
+    wanted: (Status, &str),
+) -> Result<(), AllocError> {
+    let files = [("P", FOUR_STEPS_PROGRAM.as_bytes()), ("U", public)];
+    let mut store = store_of(alloc, &files, &[])?;
+    check(rt, alloc, row, CHECK, &mut store, wanted)
+}
 
 #[test]
 fn tables_have_their_verdict(rt: HostRuntime) -> Result<(), Fail> {
@@ -479,6 +579,25 @@ fn files_that_are_none_are_told(rt: HostRuntime) -> Result<(), Fail> {
         let mut store = store_of(alloc, &files, &[])?;
         check(&rt, alloc, line, CHECK, &mut store, (*status, line))?;
     }
+    Ok(())
+}
+
+#[test]
+fn faults_of_a_public_input_are_told(rt: HostRuntime) -> Result<(), Fail> {
+    let alloc = rt.alloc();
+    for (member, status, line) in MEMBERS {
+        let mut public = Vec::from_slice(alloc, FOUR_STEPS_PUBLIC.as_bytes())?;
+        public.pop();
+        public.push(b',')?;
+        public.extend_from_slice(member.as_bytes())?;
+        public.push(b'}')?;
+        check_public(&rt, alloc, member, &public, (*status, line))?;
+    }
+    let no_json = (Input, "input 2: Json\n");
+    check_public(&rt, alloc, "no UTF-8", b"\xff", no_json)?;
+    let mut nested = Vec::from_slice(alloc, &[b'['; 128])?;
+    nested.extend_from_slice(&[b']'; 128])?;
+    check_public(&rt, alloc, "128 lists in one another", &nested, no_json)?;
     Ok(())
 }
 

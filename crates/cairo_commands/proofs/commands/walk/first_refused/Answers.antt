@@ -2,7 +2,7 @@ use Rattle.std.proofs.Common.{◌≡◌, ◌+◌, ◌-◌, sym, ◌∙◌, arith
 use Rattle.casm_word.specs.Transition.{outcome_of}
 use Rattle.trace_files.specs.MemoryFile.{memory_of, as_cells}
 use Rattle.trace_files.specs.CellList.{listed}
-use Rattle.cairo_commands.proofs.WalkSteps.{refused_here, refused_later, first_refused-end}
+use Rattle.casm_word.proofs.RefusedSteps.{refused_here, refused_later, first_refused-end}
 use Rattle.cairo_commands.proofs.commands.walk.first_refused.Goals as goal
 
 pub returns-then-not-is_next : goal.returns-then-not-is_next

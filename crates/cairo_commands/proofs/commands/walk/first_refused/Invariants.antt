@@ -1,9 +1,8 @@
 use Rattle.std.proofs.Common.{◌≡◌, ◌-◌, map, drop}
 use Rattle.casm_word.specs.Transition.{registers}
-use Rattle.casm_word.specs.Run.{steps}
+use Rattle.casm_word.specs.Run.{steps, refused_from}
 use Rattle.trace_files.specs.MemoryFile.{memory_of, as_cells}
 use Rattle.trace_files.specs.CellList.{listed}
-use Rattle.cairo_commands.specs.Commands.Walk.{refused_from}
 use Rattle.cairo_commands.proofs.commands.walk.first_refused.Given as goal
 
 abbrev pub invariant-loop-i : goal.invariant-loop-i

@@ -4,9 +4,8 @@ use Rattle.std.proofs.Math.ListN.{get_or-map, drop_of_length-le}
 use Rattle.std.proofs.lemmas.List.{length-map, get_or_read}
 use Rattle.casm_word.specs.declared.State.{State}
 use Rattle.casm_word.specs.Transition.{Memory, registers, Outcome, outcome}
-use Rattle.casm_word.specs.Run.{steps}
+use Rattle.casm_word.specs.Run.{steps, is_next, refused_from, first_refused}
 use Rattle.casm_word.proofs.Runs.{length-steps, get_or-steps}
-use Rattle.cairo_commands.specs.Commands.Walk.{is_next, refused_from, first_refused}
 
 module _ (m : Memory) (states : List State) (i : ℕ) (d : State) (within : i + 1 < length states) (so_far : refused_from m i (drop i (steps (map registers states))) ≡ refused_from m 0 (steps (map registers states))) where
   -- the step at the index stands first in the rest

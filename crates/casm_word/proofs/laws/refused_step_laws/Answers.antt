@@ -1,5 +1,5 @@
-use Rattle.cairo_commands.proofs.WalkLaws.{first_refused-none, refused_within, refused_found, refused_first}
-use Rattle.cairo_commands.proofs.laws.walk_laws.Goals as goal
+use Rattle.casm_word.proofs.RefusedRuns.{first_refused-none, refused_within, refused_found, refused_first}
+use Rattle.casm_word.proofs.laws.refused_step_laws.Goals as goal
 
 pub returns-clause-none : goal.returns-clause-none
 returns-clause-none c = first_refused-none
