@@ -9,6 +9,7 @@ mod lists;
 mod names;
 
 pub use checking::check;
+pub use lists::{accesses, range_values};
 
 /// The name of a written constraint, which is a letter and a number: `C(33)` is C33.
 #[derive(Clone, Copy, Debug, PartialEq, Eq)]

@@ -1,11 +1,11 @@
-//! The two lists that tables are checked by, each built once with its memory taken once.
+//! The two lists that tables are checked by and sorted from, each built once with its memory taken once.
 
 ghost use Rattle.std.specs.Prelude.{◌≡◌, ◌<◌, ◌≤◌, ◌^◌, ◌++◌, map, length, IfOk, OnOk};
 ghost use Rattle.std.specs.List.{flat_map};
 ghost use Rattle.program_file.specs.Listing.{listing};
 ghost use Rattle.public_input.specs.Statement.{statement};
 ghost use Rattle.public_input.specs.Valid.{IsValid};
-ghost use Rattle.table_file.specs.Tables.{contents, AreValid};
+ghost use Rattle.table_file.specs.Tables.{contents, most_rows, most_range_rows, most_fillers, most_range_fillers};
 ghost use Rattle.constraint_checker.specs.Lists.{cells_from, row_cells, row_offsets, limbs, accesses, range_values};
 
 use cpu_rows::Row;
@@ -18,14 +18,16 @@ use table_file::Tables;
 
 /// Every access to the memory: the cells of each row, the range cells, the program's words, the public cells, and the
 /// fillers.
-pub(crate) fn accesses(
+pub fn accesses(
     alloc: Global,
     program: &Program,
     public: &Public,
     tables: &Tables,
 ) -> Result<Vec<Pair>, AllocError>
     requires valid_public { IsValid public.now }
-    requires valid_tables { AreValid (contents tables.now) }
+    requires rows { length tables.now.rows.items ≤ most_rows }
+    requires range_rows { length tables.now.range.items ≤ most_range_rows }
+    requires fillers { length tables.now.memory.fill.items ≤ most_fillers }
     ensures { IfOk result (λ all. all.items ≡ accesses (listing program.now) (statement public.now) (contents tables.now)) }
 {
     let rows = tables.rows.as_slice();
@@ -98,8 +100,10 @@ fn push_words(all: &mut Vec<Pair>, words: &[Felt]) -> Result<(), AllocError>
 }
 
 /// Every value of the range check: the offsets of each row, the limbs of each range cell, and the fillers.
-pub(crate) fn range_values(alloc: Global, tables: &Tables) -> Result<Vec<Felt>, AllocError>
-    requires { AreValid (contents tables.now) }
+pub fn range_values(alloc: Global, tables: &Tables) -> Result<Vec<Felt>, AllocError>
+    requires rows { length tables.now.rows.items ≤ most_rows }
+    requires range_rows { length tables.now.range.items ≤ most_range_rows }
+    requires fillers { length tables.now.small.fill.items ≤ most_range_fillers }
     ensures { IfOk result (λ all. all.items ≡ range_values (contents tables.now)) }
 {
     let rows = tables.rows.as_slice();

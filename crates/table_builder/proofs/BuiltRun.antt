@@ -1,0 +1,125 @@
+-- The tables that the code puts together are those of the run.
+use Rattle.std.proofs.Common.{◌≡◌, ℕ, ◌-◌, ◌+◌, ◌<◌, ◌≤◌, ◌==◌, Bool, true, false, List, [], ◌∷◌, ◌++◌, length, get_or, map, find, filter_map, if◌then◌else◌, Option, Some, None, Result, Ok, Err, sym, ap, ap₂, ◌∙◌, subst, arith}
+use Rattle.std.specs.Prelude.{All, IfErr, IfSome}
+use Rattle.std.specs.Option.{option_map}
+use Rattle.std.specs.List.{cons_option}
+use Rattle.std.specs.Result.{IsErrAnd}
+use Rattle.std.proofs.lemmas.Option.{IfSome_then}
+use Rattle.std.proofs.lemmas.List.{length-map}
+use Rattle.std.proofs.lemmas.List.Elements.{All-map}
+use Rattle.goldilocks.specs.Field.{prime}
+use Rattle.goldilocks.specs.declared.Felt.{Felt}
+use Rattle.goldilocks.specs.declared.Pair.{Pair}
+use Rattle.casm_word.specs.declared.State.{State}
+use Rattle.casm_word.specs.Transition.{Memory, Registers, registers}
+use Rattle.cpu_rows.specs.declared.Row.{Row}
+use Rattle.casm_word.specs.Run.{steps}
+use Rattle.casm_word.proofs.Runs.{length-steps}
+use Rattle.sorted_lists.specs.Order.{in_order}
+use Rattle.memory_columns.specs.Equations.{pair_cmp}
+use Rattle.range_columns.specs.Equations.{felt_cmp}
+use Rattle.range_columns.specs.Filling.{absent_values}
+use Rattle.range_columns.specs.declared.RangeRow.{RangeRow}
+use Rattle.trace_files.specs.MemoryFile.{Cell, memory_of, as_cell, as_cells}
+use Rattle.program_file.specs.Listing.{Listing}
+use Rattle.public_input.specs.Statement.{Statement}
+use Rattle.table_file.specs.Tables.{Contents}
+use Rattle.constraint_checker.specs.Lists.{felt_of, accesses, range_values}
+use Rattle.table_builder.specs.declared.faults.BuildFault.{BuildFault}
+use Rattle.table_builder.specs.Rows.{row_at, as_row, rows_of, range_rows_of, last_of, as_state}
+use Rattle.table_builder.specs.Columns.{unsorted, reads, small_values, free_addresses, cells_at, tables_of}
+use Rattle.table_builder.specs.Findings.{Finding, finding_of}
+use Rattle.table_builder.specs.Parts.{AreMemoryColumns, AreSmallColumns}
+use Rattle.table_builder.proofs.BuiltRow.{felt_back}
+use Rattle.table_builder.proofs.EndFindings.{last_state}
+
+-- the fault of a part refuses the run, where what the part finds is what is found first
+pub refuses : {X : Type 0} (part : Option Finding) (built : Result Contents Finding) (result : Result X BuildFault) (fault : BuildFault) → IsErrAnd result (λ e. e ≡ fault) → ((told : Finding) → part ≡ Some told → built ≡ Err told) → IfSome (finding_of fault) (λ told. part ≡ Some told) → IfErr result (λ f. IfSome (finding_of f) (λ found. built ≡ Err found))
+refuses part built (Ok x) fault ended goes told = absurd ended
+refuses part built (Err e) fault ended goes told =
+    let P : BuildFault → Type 0 = λ f. IfSome (finding_of f) (λ found. built ≡ Err found) in
+    subst P (sym ended) (IfSome_then (finding_of fault) told goes)
+
+-- ---- numbers of the field
+
+pub registers_low : (states : List State) → All (λ s. (s.pc < prime) × (s.ap < prime) × (s.fp < prime)) (map registers states)
+unfolding registers
+registers_low states = All-map (λ s. (s.pc < prime) × (s.ap < prime) × (s.fp < prime)) registers states (λ k d within. ((get_or states k d).pc.in_field, (get_or states k d).ap.in_field, (get_or states k d).fp.in_field))
+
+value_low : (x : Pair) (here : Bool) (later : Option Cell) (v : ℕ) → (option_map (λ (c : Cell). c.value) later ≡ Some v → v < prime) → option_map (λ (c : Cell). c.value) (if here then Some (as_cell x) else later) ≡ Some v → v < prime
+value_low x true later v behind is = let same : x.value.number ≡ v = cc in subst (λ n. n < prime) same x.value.in_field
+value_low x false later v behind is = behind is
+
+pub values_low : (cells : List Pair) (a v : ℕ) → memory_of (as_cells cells) a ≡ Some v → v < prime
+unfolding memory_of
+values_low [] a v e = cc
+values_low (x ∷ cells) a v e = value_low x (x.addr.number == a) (find (λ c. c.addr == a) (as_cells cells)) v (values_low cells a v) e
+
+-- ---- before anything is sorted
+
+state_back : (s : State) → as_state (registers s) ≡ s
+unfolding registers
+state_back s =
+    let pc = felt_back s.pc in
+    let ap_ = felt_back s.ap in
+    let fp = felt_back s.fp in
+    λ i. record { pc = pc i; ap = ap_ i; fp = fp i }
+
+pub last_built : (states : List State) (s : State) → 2 ≤ length states → s ≡ get_or states (length states - 1) s → s ≡ as_state (last_of (map registers states))
+last_built states s some is = sym (ap as_state (last_state states some s is) ∙ state_back s)
+
+pub unsorted_is : (public : Statement) (m : Memory) (states : List Registers) (t : Contents) (rows : List Row) (last : State) (range : List RangeRow) → t ≡ record { rows = rows; last = last; range = range; fillers = []; pairs = []; range_fillers = []; sorted_range = [] } → rows ≡ rows_of m states → last ≡ as_state (last_of states) → range ≡ range_rows_of public m → t ≡ unsorted public m states
+unfolding unsorted
+unsorted_is public m states t rows last range is rows_are last_is range_are =
+    is ∙ (λ i. record { rows = rows_are i; last = last_is i; range = range_are i; fillers = []; pairs = []; range_fillers = []; sorted_range = [] })
+
+-- ---- with the columns
+
+module _ (program : Listing) (public : Statement) (m : Memory) (states : List Registers) (t : Contents) (is : t ≡ unsorted public m states) where
+  pub reads_are : accesses program public t ≡ reads program public m states
+  unfolding reads
+  reads_are = ap (accesses program public) is
+
+  pub small_are : range_values t ≡ small_values public m states
+  unfolding small_values
+  small_are = ap range_values is
+
+  pub tables_are : (fill pairs : List Pair) (absent sorted : List Felt) → AreMemoryColumns m (accesses program public t) fill pairs → AreSmallColumns public (range_values t) absent sorted → tables_of program public m states ≡ record { rows = t.rows; last = t.last; range = t.range; fillers = fill; pairs = pairs; range_fillers = absent; sorted_range = sorted }
+  unfolding tables_of reads small_values unsorted
+  tables_are fill pairs absent sorted memory small =
+      let rows_same : rows_of m states ≡ t.rows = sym (ap (λ (x : Contents). x.rows) is) in
+      let last_same : as_state (last_of states) ≡ t.last = sym (ap (λ (x : Contents). x.last) is) in
+      let range_same : range_rows_of public m ≡ t.range = sym (ap (λ (x : Contents). x.range) is) in
+      let fill_same : cells_at m (free_addresses (reads program public m states)) ≡ fill = sym (memory.fillers ∙ ap (λ xs. cells_at m (free_addresses xs)) reads_are) in
+      let pairs_same : in_order pair_cmp (reads program public m states ++ cells_at m (free_addresses (reads program public m states))) ≡ pairs =
+      ap₂ (λ xs ys. in_order pair_cmp (xs ++ ys)) (sym reads_are) fill_same ∙ sym memory.in_turn in
+      let absent_same : map felt_of (absent_values (small_values public m states) public.rc_min public.rc_max) ≡ absent =
+      sym (small.fillers ∙ ap (λ vs. map felt_of (absent_values vs public.rc_min public.rc_max)) small_are) in
+      let sorted_same : in_order felt_cmp (small_values public m states ++ map felt_of (absent_values (small_values public m states) public.rc_min public.rc_max)) ≡ sorted =
+      ap₂ (λ xs ys. in_order felt_cmp (xs ++ ys)) (sym small_are) absent_same ∙ sym small.in_turn in
+      λ i. record {
+        rows = rows_same i;
+        last = last_same i;
+        range = range_same i;
+        fillers = fill_same i;
+        pairs = pairs_same i;
+        range_fillers = absent_same i;
+        sorted_range = sorted_same i;
+      }
+
+-- ---- how many rows there are
+
+one_at_most : {Y : Type 0} (o : Option Y) (ys : List Y) → length (cons_option o ys) ≤ length ys + 1
+one_at_most None ys = omega arith
+one_at_most (Some y) ys = omega arith
+
+filtered_few : {X Y : Type 0} (h : X → Option Y) (xs : List X) → length (filter_map h xs) ≤ length xs
+filtered_few h [] = omega arith
+filtered_few h (x ∷ xs) = omega (arith, filtered_few h xs, one_at_most (h x) (filter_map h xs))
+
+pub few_rows : (m : Memory) (states : List State) → length (rows_of m (map registers states)) ≤ length states - 1
+unfolding rows_of
+few_rows m states =
+    let all = steps (map registers states) in
+    let made = filter_map (λ (step : Registers × Registers). row_at m step.0) all in
+    omega (arith, length-map made as_row, filtered_few (λ (step : Registers × Registers). row_at m step.0) all, length-steps (map registers states), length-map states registers)

@@ -1,0 +1,91 @@
+-- Values, rows and cells are those of their numbers.
+use Rattle.std.proofs.Common.{◌≡◌, ℕ, List, [], ◌∷◌, map, refl, sym, ap, ap₂, ◌∙◌}
+use Rattle.std.proofs.Math.Nat.{mod-eq_of_lt}
+use Rattle.goldilocks.specs.declared.Felt.{Felt}
+use Rattle.goldilocks.specs.declared.Pair.{Pair}
+use Rattle.goldilocks.proofs.Pairs.{same_felt}
+use Rattle.casm_word.specs.declared.State.{State}
+use Rattle.casm_word.specs.Transition.{registers}
+use Rattle.cpu_rows.specs.declared.Row.{Row}
+use Rattle.cpu_rows.specs.Columns.{columns}
+use Rattle.memory_columns.specs.Filling.{numbers_of}
+use Rattle.range_columns.specs.declared.RangeRow.{RangeRow}
+use Rattle.range_columns.specs.Limbs.{limb_at, IsSplitOf}
+use Rattle.constraint_checker.specs.Lists.{felt_of, cell}
+use Rattle.table_builder.specs.Rows.{as_state, as_row, limb_row}
+
+pub felt_kept : (x : Felt) → felt_of x.number ≡ x
+felt_kept x = same_felt (felt_of x.number) x (mod-eq_of_lt x.in_field)
+
+pub felts_kept : (xs : List Felt) → map felt_of (map (λ x. x.number) xs) ≡ xs
+felts_kept [] = refl
+felts_kept (x ∷ xs) = ap₂ (λ y ys. y ∷ ys) (felt_kept x) (felts_kept xs)
+
+-- a value whose number is known
+pub felt_is : (x : Felt) (n : ℕ) → x.number ≡ n → x ≡ felt_of n
+felt_is x n is = sym (felt_kept x) ∙ ap felt_of is
+
+pub row_kept : (r : Row) → as_row (columns r) ≡ r
+unfolding as_row columns
+row_kept r =
+    let pc_same = felt_kept r.pc in
+    let ap_same = felt_kept r.ap in
+    let fp_same = felt_kept r.fp in
+    let inst_same = felt_kept r.inst in
+    let tilde_same = felts_kept r.tilde in
+    let off_dst_same = felt_kept r.off_dst in
+    let off_op0_same = felt_kept r.off_op0 in
+    let off_op1_same = felt_kept r.off_op1 in
+    let dst_addr_same = felt_kept r.dst_addr in
+    let op0_addr_same = felt_kept r.op0_addr in
+    let op1_addr_same = felt_kept r.op1_addr in
+    let dst_same = felt_kept r.dst in
+    let op0_same = felt_kept r.op0 in
+    let op1_same = felt_kept r.op1 in
+    let mul_same = felt_kept r.mul in
+    let res_same = felt_kept r.res in
+    let t0_same = felt_kept r.t0 in
+    let t1_same = felt_kept r.t1 in
+    λ i. record {
+      pc = pc_same i;
+      ap = ap_same i;
+      fp = fp_same i;
+      inst = inst_same i;
+      tilde = tilde_same i;
+      off_dst = off_dst_same i;
+      off_op0 = off_op0_same i;
+      off_op1 = off_op1_same i;
+      dst_addr = dst_addr_same i;
+      op0_addr = op0_addr_same i;
+      op1_addr = op1_addr_same i;
+      dst = dst_same i;
+      op0 = op0_same i;
+      op1 = op1_same i;
+      mul = mul_same i;
+      res = res_same i;
+      t0 = t0_same i;
+      t1 = t1_same i;
+    }
+
+pub state_kept : (s : State) → as_state (registers s) ≡ s
+unfolding registers
+state_kept s =
+    let pc_same = felt_kept s.pc in
+    let ap_same = felt_kept s.ap in
+    let fp_same = felt_kept s.fp in
+    λ i. record { pc = pc_same i; ap = ap_same i; fp = fp_same i }
+
+pub limbs_kept : (r : RangeRow) → IsSplitOf r.value.number r → r ≡ limb_row r.value.number
+unfolding limb_row
+limbs_kept r split =
+    let n : ℕ = r.value.number in
+    let value_same = felt_is r.value n refl in
+    let l0_same = felt_is r.l0 (limb_at 0 n) split.l0 in
+    let l1_same = felt_is r.l1 (limb_at 1 n) split.l1 in
+    let l2_same = felt_is r.l2 (limb_at 2 n) split.l2 in
+    λ i. record { value = value_same i; l0 = l0_same i; l1 = l1_same i; l2 = l2_same i }
+
+-- cells are those of their numbers
+pub cells_kept : (xs : List Pair) → map (λ (p : ℕ × ℕ). cell (felt_of p.0) (felt_of p.1)) (map numbers_of xs) ≡ xs
+cells_kept [] = refl
+cells_kept (x ∷ xs) = ap₂ (λ y ys. y ∷ ys) (ap₂ cell (felt_kept x.addr) (felt_kept x.value)) (cells_kept xs)

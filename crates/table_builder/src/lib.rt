@@ -1,0 +1,17 @@
+//! The tables of a run, built from its states and its memory.
+#![tactic(auto)]
+
+mod builder;
+mod cells;
+mod columns;
+mod ends;
+mod faults;
+mod laws;
+mod rows;
+
+pub use builder::build;
+pub use faults::{BuildFault, Field};
+pub use laws::building_laws;
+
+#[cfg(test)]
+mod tests;
