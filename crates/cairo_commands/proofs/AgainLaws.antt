@@ -1,10 +1,8 @@
 -- A text that is written for a program is assembled to the program again, and a program file that is written for a text
 -- is shown as the text's words again.
-use Rattle.std.proofs.Common.{◌≡◌, ℕ, ◌<◌, ◌^◌, Bool, cond, List, [], ◌∷◌, length, Some, refl, sym, ap, ◌∙◌, arith}
-use Rattle.std.specs.Cmp.Lexicographic.{nat_list_cmp_total}
-use Rattle.std.proofs.lemmas.Cmp.{eq_by_cmp_equiv}
-use Rattle.std.specs.FinMap.{insert, get-insert}
-use Rattle.file_port.specs.Files.{Name, Files, file_at}
+use Rattle.std.proofs.Common.{◌≡◌, ◌<◌, ◌^◌, List, [], ◌∷◌, length, refl, sym, ap, ◌∙◌, arith}
+use Rattle.std.specs.FinMap.{insert}
+use Rattle.file_port.specs.Files.{Name, Files}
 use Rattle.casm_statements.specs.declared.Item.{Item}
 use Rattle.casm_text.specs.Canonical.{printed}
 use Rattle.casm_text.specs.Meaning.{bodies, Means}
@@ -26,13 +24,8 @@ use Rattle.cairo_commands.proofs.ProgramReadings.{Disassembles-items_of, IsProgr
 use Rattle.cairo_commands.proofs.AsmTheorem.{asm_answer-assembled}
 use Rattle.cairo_commands.proofs.DisTheorem.{dis_answer-shown}
 use Rattle.cairo_commands.proofs.ProgramSizes.{written_fits}
+use Rattle.cairo_commands.proofs.WrittenFiles.{held_last}
 use Rattle.cairo_commands.proofs.ShownBodies.{disassembled_bodies}
-
--- the file that was written last has its bytes
-held_last : (files : Files) (name : Name) (bytes : List ℕ) → file_at (insert files name bytes) name ≡ Some bytes
-held_last files name bytes =
-    get-insert nat_list_cmp_total files name bytes name
-    ∙ ap (λ (b : Bool). cond b (Some bytes) (file_at files name)) ((eq_by_cmp_equiv nat_list_cmp_total).refl name)
 
 -- ---- what `asm` makes of what `dis` wrote
 

@@ -7,11 +7,14 @@ pub mod TableReadings
 pub mod WalkTheorem
 pub mod AsmTheorem
 pub mod DisTheorem
+pub mod WrittenFiles
+pub mod TablesTheorem
 pub mod CheckTheorem
 pub mod NameLists
 pub mod NumberWords
 pub mod CarryOut
 pub mod Evidence
+pub mod AskedNames
 pub mod Means
 pub mod ReplyLaws
 pub mod ShownBodies

@@ -6,9 +6,12 @@ use Rattle.trace_files.specs.MemoryFile.{memory_of}
 use Rattle.constraint_checker.specs.declared.Verdict.{Verdict}
 use Rattle.constraint_checker.specs.declared.Verdict.TheVariants as verdict_is
 use Rattle.constraint_checker.specs.Verdict.{verdict}
+use Rattle.table_file.specs.Tables.{Contents}
+use Rattle.table_builder.specs.Findings.{Finding}
+use Rattle.table_builder.specs.Building.{building}
 use Rattle.cairo_commands.specs.declared.status.Status.TheVariants.{Done}
 use Rattle.cairo_commands.specs.Answer.{Answer, Input, missing, over_limit, unspelled}
-use Rattle.cairo_commands.specs.Request.{Request, Walk, Asm, Dis, Check}
+use Rattle.cairo_commands.specs.Request.{Request, Walk, Asm, Dis, Tables, Check}
 use Rattle.cairo_commands.specs.Reading.{◌>>=◌, Unread, TooMuch, Faulty, answered, within, spelled, read_as}
 use Rattle.cairo_commands.specs.Reply.{task, reply_to, outputs_of}
 use Rattle.cairo_commands.specs.Status.{IsDecided}
@@ -19,6 +22,7 @@ use Rattle.casm_word.specs.Run.{first_refused}
 use Rattle.cairo_commands.specs.Commands.Walk.{walked, walk_answer}
 use Rattle.cairo_commands.specs.Commands.Asm.{asm_answer}
 use Rattle.cairo_commands.specs.Commands.Dis.{dis_answer}
+use Rattle.cairo_commands.specs.Commands.Tables.{built_answer, tables_answer}
 use Rattle.cairo_commands.specs.Commands.Check.{checked, check_answer}
 
 -- an answer that writes all of these names where it ends with `Done`, and else nothing
@@ -61,6 +65,10 @@ settled_checked : (rows : ℕ) (v : Verdict) → IsSettled [] (checked rows v)
 settled_checked rows verdict_is.Accepted = record { decided = tt; nothing = λ other. refl; all = λ e. refl }
 settled_checked rows (verdict_is.Refused constraint row) = record { decided = tt; nothing = λ other. refl; all = λ e. cc }
 
+settled_built : (tables : Name) (r : Result Contents Finding) → IsSettled (tables ∷ []) (built_answer tables r)
+settled_built tables (Ok columns) = record { decided = tt; nothing = λ other. absurd (other refl); all = λ e. refl }
+settled_built tables (Err found) = record { decided = tt; nothing = λ other. refl; all = λ e. cc }
+
 module _ (files : Files) where
   settled_walk : (trace memory : Name) → IsSettled [] (walk_answer trace memory files)
   unfolding walk_answer
@@ -82,11 +90,17 @@ module _ (files : Files) where
   settled_check program public tables =
       settled_read [] (program_input 1 program) _ (λ p. settled_read [] (public_input 2 public) _ (λ u. settled_read [] (tables_input 3 tables) _ (λ t. settled_checked (length t.rows) (verdict p u t)) tables_read files) public_read files) program_read files
 
+  pub settled_tables : (program public trace memory tables : Name) → IsSettled (tables ∷ []) (tables_answer program public trace memory tables files)
+  unfolding tables_answer
+  settled_tables program public trace memory tables =
+      settled_read (tables ∷ []) (program_input 1 program) _ (λ p. settled_read (tables ∷ []) (public_input 2 public) _ (λ u. settled_read (tables ∷ []) (trace_input 3 trace) _ (λ states. settled_read (tables ∷ []) (memory_input 4 memory) _ (λ cells. settled_built tables (building p u (memory_of cells) states)) cells_read files) trace_read files) public_read files) program_read files
+
   settled_task : (request : Request) → IsSettled (task request).outputs ((task request).answer files)
   unfolding task
   settled_task (Walk trace memory) = settled_walk trace memory
   settled_task (Asm text program) = settled_asm text program
   settled_task (Dis program text) = settled_dis program text
+  settled_task (Tables program public trace memory tables) = settled_tables program public trace memory tables
   settled_task (Check program public tables) = settled_check program public tables
 
   pub settled_reply : (request : Option Request) → IsSettled (outputs_of request) (reply_to request files)

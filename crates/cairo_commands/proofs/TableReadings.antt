@@ -1,21 +1,24 @@
 -- What the bytes of tables files are read as, and what they spell.
-use Rattle.std.proofs.Common.{◌≡◌, ℕ, zero, suc, ◌<◌, ◌/◌, ◌^◌, Bool, true, false, cond, List, [], ◌∷◌, ◌++◌, get_or, Result, Ok, Err, refl, sym, ap, ◌∙◌, subst, nat_lt, inl, inr, ◌⊎◌, lit<}
-use Rattle.std.specs.Prelude.{codes}
+use Rattle.std.proofs.Common.{◌≡◌, ℕ, zero, suc, ◌<◌, ◌≤◌, ◌/◌, ◌^◌, Bool, true, false, cond, List, [], ◌∷◌, ◌++◌, length, get_or, Result, Ok, Err, refl, sym, ap, ◌∙◌, subst, arith, nat_lt, inl, inr, ◌⊎◌, lit<}
+use Rattle.std.specs.Prelude.{codes, slice_index}
 use Rattle.std.specs.Int.{byte_at, bytes_low_first}
 use Rattle.std.proofs.Math.Nat.{mod-lt}
-use Rattle.std.proofs.lemmas.Bool.{ltb-true, lt-ltb, and_parts, and_from}
+use Rattle.std.proofs.lemmas.Bool.{ltb-true, lt-ltb, and_parts, and_from, cases_lt}
 use Rattle.std.proofs.lemmas.List.Folds.{list_all-append}
 use Rattle.table_file.specs.declared.TableFault.{TableFault}
-use Rattle.table_file.specs.declared.TableFault.TheVariants.{Memory}
+use Rattle.table_file.specs.declared.TableFault.TheVariants.{TooMany, Length, Memory}
 use Rattle.table_file.specs.FileNumbers.{number_bytes, numbers_bytes}
 use Rattle.table_file.specs.Tables.{Contents}
 use Rattle.table_file.specs.Spelling.{Spells, magic, counts, all_values, spelling}
+use Rattle.table_file.specs.Faults.{count_limits, count_place, count_in, file_end, HasFault}
 use Rattle.table_file.specs.Reading.{reading}
+use Rattle.table_file.proofs.FirstFaults.{file_end_least}
+use Rattle.table_file.proofs.Spellings.{no_fault}
 use Rattle.table_file.proofs.Readings.{reading-spells, spells-reading}
 use Rattle.cairo_commands.specs.declared.ending.Refusal.{Refusal}
 use Rattle.cairo_commands.specs.declared.ending.Refusal.TheVariants.{OutOfMemory}
 use Rattle.cairo_commands.specs.Reading.{Faulty, told}
-use Rattle.cairo_commands.specs.TableInputs.{are_bytes, tables_unread, tables_read}
+use Rattle.cairo_commands.specs.TableInputs.{tables_limit, are_bytes, tables_unread, tables_read}
 use Rattle.cairo_commands.specs.Parts.{Refuses, TellsRead}
 use Rattle.cairo_commands.proofs.Readings.{told_ok}
 use Rattle.cairo_commands.proofs.Refusals.{TellsRead-refused}
@@ -79,3 +82,38 @@ tables_refused bytes fault position refusal test (inl memory) says wants =
     subst (TellsRead position (tables_read bytes)) (sym (wants memory)) tt
 tables_refused bytes fault position refusal test (inr is) says wants =
     TellsRead-refused position (tables_unread fault) (tables_read bytes) (tables_read-bytes bytes (Err fault) test is) refusal says
+
+-- ---- how long a tables file is
+
+module _ (bytes : List ℕ) (t : Contents) (spells : Spells bytes t) where
+  right_end : length bytes ≡ file_end bytes
+  unfolding HasFault
+  right_end =
+      let none = no_fault bytes t spells in
+      elim (cases_lt (length bytes) (file_end bytes)) [
+        | inl early ↦ absurd (none (length bytes) Length (inl (record { ends = refl; early = early })))
+        | inr late ↦ elim (cases_lt (file_end bytes) (length bytes)) [
+          | inl followed ↦ absurd (none (file_end bytes) Length (inr (record { ends = refl; followed = followed })))
+          | inr same ↦ omega arith
+        ]
+      ]
+
+  low_count : (k : ℕ) → k < 5 → count_in bytes k ≤ slice_index count_limits k
+  unfolding HasFault
+  low_count k few =
+      elim (cases_lt (slice_index count_limits k) (count_in bytes k)) [
+        | inl above ↦ absurd (no_fault bytes t spells (count_place k) TooMany (record { k = k; is_count = few; begins = refl; whole = omega (arith, right_end, file_end_least bytes); above = above }))
+        | inr low ↦ low
+      ]
+
+  -- bytes that spell tables are within the limit of a tables file
+  pub length-spelled_tables : length bytes ≤ tables_limit
+  unfolding file_end
+  length-spelled_tables =
+      let end = right_end in
+      let rows = low_count 0 (omega arith) in
+      let range = low_count 1 (omega arith) in
+      let fillers = low_count 2 (omega arith) in
+      let pairs = low_count 3 (omega arith) in
+      let range_fillers = low_count 4 (omega arith) in
+      omega arith

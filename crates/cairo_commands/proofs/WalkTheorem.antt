@@ -1,12 +1,10 @@
 -- What the endings of `walk` mean.
-use Rattle.std.proofs.Common.{◌≡◌, ◌≢◌, ℕ, zero, suc, ◌+◌, ◌-◌, Bool, true, false, cond, List, [], ◌∷◌, length, take, Option, Some, None, Ok, refl, sym, ap, ◌∙◌, arith, subst, inl, inr, ◌⊎◌, slice_get}
+use Rattle.std.proofs.Common.{◌≡◌, ℕ, ◌+◌, ◌-◌, List, length, take, Option, Some, None, Ok, refl, sym, ap, ◌∙◌, arith, subst}
 use Rattle.std.specs.Io.KnownBytes.{Appends}
-use Rattle.std.proofs.lemmas.Bool.{and_parts, and_from, eqb-true, eq-eqb, both_ways}
 use Rattle.std.proofs.lemmas.List.Elements.{All-from_recursion, recursion_from_All}
-use Rattle.std.specs.List.{AllByRecursion}
 use Rattle.file_port.specs.Files.{Name, Files}
 use Rattle.file_port.specs.Seen.{Seen, SinkSeen}
-use Rattle.casm_word.specs.Transition.{Memory, Registers, Outcome, Next, NoCell, BadWord, CallPc, CallFp, NotEqual, outcome, next}
+use Rattle.casm_word.specs.Transition.{Registers, Outcome, outcome}
 use Rattle.casm_word.specs.Run.{steps, refused_from, first_refused}
 use Rattle.casm_word.proofs.RefusedRuns.{IsStep, AreNext-from_none, none-from_AreNext, IsFirstRefused-from, refused_from-first}
 use Rattle.cairo_commands.specs.declared.status.Status.{Status}

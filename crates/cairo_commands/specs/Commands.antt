@@ -1,4 +1,5 @@
 pub mod Asm
 pub mod Check
 pub mod Dis
+pub mod Tables
 pub mod Walk

@@ -2,10 +2,11 @@
 use Rattle.std.specs.Prelude.{ℕ, List, Option}
 use Rattle.file_port.specs.Files.{Files}
 use Rattle.cairo_commands.specs.declared.status.Status.{Status}
-use Rattle.cairo_commands.specs.Request.{Request, Walk, Asm, Dis, Check}
+use Rattle.cairo_commands.specs.Request.{Request, Walk, Asm, Dis, Tables, Check}
 use Rattle.cairo_commands.specs.Commands.Walk.{WalkMeans}
 use Rattle.cairo_commands.specs.Commands.Asm.{AsmMeans}
 use Rattle.cairo_commands.specs.Commands.Dis.{DisMeans}
+use Rattle.cairo_commands.specs.Commands.Tables.{TablesMeans}
 use Rattle.cairo_commands.specs.Commands.Check.{CheckMeans}
 
 -- What it means that a command over these files ends with this status, with the files that are there afterwards and
@@ -14,4 +15,5 @@ unfoldable pub Means : Request → Files → Status → Option Files → Option 
 Means (Walk trace memory) files status after before now = WalkMeans trace memory files status before now
 Means (Asm text program) files status after before now = AsmMeans text program files status after before now
 Means (Dis program text) files status after before now = DisMeans program text files status after before now
+Means (Tables program public trace memory tables) files status after before now = TablesMeans program public trace memory tables files status after before now
 Means (Check program public tables) files status after before now = CheckMeans program public tables files status before now

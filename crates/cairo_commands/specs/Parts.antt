@@ -7,6 +7,7 @@ use Rattle.file_port.specs.Files.{Name, Files}
 use Rattle.file_port.specs.Counts.{Counts, Rose}
 use Rattle.file_port.specs.Ports.{AppendsPrefix}
 use Rattle.file_port.specs.Seen.{Seen}
+use Rattle.table_builder.specs.Findings.{Finding}
 use Rattle.cairo_commands.specs.declared.status.Status.{Status}
 use Rattle.cairo_commands.specs.declared.status.Status.TheVariants.{Done, Refused as RefusedStatus, Sink, Store as StoreFailed, Memory as NoMemory}
 use Rattle.cairo_commands.specs.declared.ending.Refusal.{Refusal}
@@ -15,11 +16,12 @@ use Rattle.cairo_commands.specs.declared.ending.Work.{Work}
 use Rattle.cairo_commands.specs.declared.ending.Output.{Output}
 use Rattle.cairo_commands.specs.declared.inputs.Input.{Input as CodeInput}
 use Rattle.cairo_commands.specs.declared.words.Command.{Command}
-use Rattle.cairo_commands.specs.declared.words.Command.TheVariants.{Walk as WalkCommand, Asm as AsmCommand, Dis as DisCommand, Check as CheckCommand}
+use Rattle.cairo_commands.specs.declared.words.Command.TheVariants.{Walk as WalkCommand, Asm as AsmCommand, Dis as DisCommand, Tables as TablesCommand, Check as CheckCommand}
 use Rattle.cairo_commands.specs.Status.{IsDecided}
 use Rattle.cairo_commands.specs.Answer.{Answer, Input, Task, says, usage, missing, over_limit, unspelled, written, store_fault_line}
 use Rattle.cairo_commands.specs.Reading.{Unread, TooMuch, Faulty}
-use Rattle.cairo_commands.specs.Request.{Request, Walk, Asm, Dis, Check}
+use Rattle.cairo_commands.specs.Request.{Request, Walk, Asm, Dis, Tables, Check}
+use Rattle.cairo_commands.specs.Commands.Tables.{refused_line}
 use Rattle.cairo_commands.specs.Reply.{task}
 use Rattle.cairo_commands.specs.Perform.{PassesLimit, OneOf, OneName, LeavesOutputs, most_given}
 
@@ -28,6 +30,7 @@ abbrev pub request : Command → Request
 request (WalkCommand trace memory) = Walk trace.now memory.now
 request (AsmCommand text program) = Asm text.now program.now
 request (DisCommand program text) = Dis program.now text.now
+request (TablesCommand program public trace memory tables) = Tables program.now public.now trace.now memory.now tables.now
 request (CheckCommand program public tables) = Check program.now public.now tables.now
 
 -- An input of the code. Own.
@@ -77,6 +80,12 @@ abbrev pub IsToldAs : ℕ → List ℕ → Refusal → Type 0
 IsToldAs position text (Unspelled at fault) = (at ≡ position) × (string_bytes fault ≡ text)
 IsToldAs position text OutOfMemory = ⊤
 IsToldAs position text _ = ⊥
+
+-- The refusal tells what is found of a run, unless memory ran out. Own.
+abbrev pub TellsFinding : Option Finding → Refusal → Type 0
+TellsFinding (Some found) (Refused line) = string_bytes line ≡ refused_line found
+TellsFinding found OutOfMemory = ⊤
+TellsFinding found _ = ⊥
 
 -- The refusal is that an input has too many bytes or entries. Own.
 abbrev pub IsOver : Refusal → Type 0

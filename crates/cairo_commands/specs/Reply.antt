@@ -4,10 +4,11 @@ use Rattle.std.specs.declared.alloc.Global.{Global}
 use Rattle.std.specs.Str.{bytes_eq}
 use Rattle.file_port.specs.Files.{Name, Files}
 use Rattle.cairo_commands.specs.Answer.{Answer, Input, Task, usage}
-use Rattle.cairo_commands.specs.Request.{Request, Walk, Asm, Dis, Check}
+use Rattle.cairo_commands.specs.Request.{Request, Walk, Asm, Dis, Tables, Check}
 use Rattle.cairo_commands.specs.Commands.Walk.{walk_request, walk_task}
 use Rattle.cairo_commands.specs.Commands.Asm.{asm_request, asm_task}
 use Rattle.cairo_commands.specs.Commands.Dis.{dis_request, dis_task}
+use Rattle.cairo_commands.specs.Commands.Tables.{tables_request, tables_task}
 use Rattle.cairo_commands.specs.Commands.Check.{check_request, check_task}
 
 -- The command that these texts are, if they are one. Own.
@@ -17,14 +18,16 @@ request_in (command ∷ names) =
     if bytes_eq command (codes "walk") then walk_request names
     else (if bytes_eq command (codes "asm") then asm_request names
     else (if bytes_eq command (codes "dis") then dis_request names
+    else (if bytes_eq command (codes "tables") then tables_request names
     else (if bytes_eq command (codes "check") then check_request names
-    else None)))
+    else None))))
 
 -- What a command is asked to do. Own.
 unfoldable pub task : Request → Task
 task (Walk trace memory) = walk_task trace memory
 task (Asm text program) = asm_task text program
 task (Dis program text) = dis_task program text
+task (Tables program public trace memory tables) = tables_task program public trace memory tables
 task (Check program public tables) = check_task program public tables
 
 -- The words as texts. Own.

@@ -11,6 +11,7 @@ pub data Request : Type 0 where
   Walk : (trace memory : Name) → Request
   Asm : (text program : Name) → Request
   Dis : (program text : Name) → Request
+  Tables : (program public trace memory tables : Name) → Request
   Check : (program public tables : Name) → Request
 
 -- One of the names is this one. Own.

@@ -3,4 +3,5 @@
 pub(crate) mod asm;
 pub(crate) mod check;
 pub(crate) mod dis;
+pub(crate) mod tables;
 pub(crate) mod walk;

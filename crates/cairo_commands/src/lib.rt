@@ -27,6 +27,7 @@ pub use again::again_laws;
 use commands::asm::asm;
 use commands::check::check;
 use commands::dis::dis;
+use commands::tables::tables;
 use commands::walk::walk;
 use ending::{Refusal, Work};
 use file_port::{Sink, Store};
@@ -44,6 +45,8 @@ use words::{Command, command_of};
 /// - `walk TRACE MEMORY` looks whether each step of a trace is the transition of the Cairo machine in a memory.
 /// - `asm TEXT PROGRAM` assembles an assembly text, and writes the program file.
 /// - `dis PROGRAM TEXT` shows the words of a program file, and writes them as an assembly text.
+/// - `tables PROGRAM PUBLIC TRACE MEMORY TABLES` builds the tables of a run, and writes their file, which `check`
+///   accepts.
 /// - `check PROGRAM PUBLIC TABLES` looks whether tables meet every written constraint. Accepted tables describe a run of
 ///   the program with this public input.
 ///
@@ -116,6 +119,15 @@ fn plan<'w, S: Store>(
         Some(Command::Walk { trace, memory }) => walk(alloc, store, trace, memory),
         Some(Command::Asm { text, program }) => asm(alloc, store, text, program),
         Some(Command::Dis { program, text }) => dis(alloc, store, program, text),
+        Some(
+            Command::Tables {
+                program,
+                public,
+                trace,
+                memory,
+                tables: output,
+            },
+        ) => tables(alloc, store, program, public, trace, memory, output),
         Some(
             Command::Check {
                 program,

@@ -2,7 +2,7 @@
 
 ghost use Rattle.std.specs.Prelude.{◌≡◌, ◌≢◌, ◌∷◌, ◌<◌, ◌≤◌, ◌^◌, [], IfSome, IfOk, IfErr, Ok, Err, map, length};
 ghost use Rattle.casm_word.specs.Transition.{registers};
-ghost use Rattle.trace_files.specs.TraceFile.{trace_reading, trace_limit};
+ghost use Rattle.trace_files.specs.TraceFile.{trace_reading, trace_limit, most_states};
 ghost use Rattle.trace_files.specs.MemoryFile.{memory_reading, as_cells, memory_limit};
 ghost use Rattle.trace_files.specs.CellList.{listed};
 ghost use Rattle.trace_files.specs.Faults.{file_fault_text};
@@ -27,6 +27,8 @@ pub(crate) fn trace_input<'w, S: Store>(
     ensures told { IfSome (S.seen store.old).files (λ files. Gives (λ states. map registers states.items) result
         (read_as spec.trace_read (spec.trace_input position name.now) files)) }
     ensures uses { ReadsInputs (spec.trace_input position name.now ∷ []) (S.seen store.old) (S.seen store.new) result }
+    ensures least { IfOk result (λ states. 2 ≤ length states.items) }
+    ensures most { IfOk result (λ states. length states.items ≤ most_states) }
 {
     let input = Input {
         position,
@@ -62,6 +64,8 @@ pub(crate) fn memory_input<'w, S: Store>(
 /// The states that the bytes of the input at this position are read as.
 fn states_of<'w>(alloc: Global, position: usize, bytes: &[u8]) -> Result<Vec<State>, Refusal<'w>>
     ensures reads { ReadsAs (λ states. map registers states.items) position (spec.trace_read bytes.now) result }
+    ensures least { IfOk result (λ states. 2 ≤ length states.items) }
+    ensures most { IfOk result (λ states. length states.items ≤ most_states) }
     ensures within { length bytes.now ≤ trace_limit → IfErr result (λ refusal. IsOver refusal → ⊥) }
 {
     match read_trace(alloc, bytes) {

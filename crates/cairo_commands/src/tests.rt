@@ -4,6 +4,7 @@ mod checks;
 mod faults;
 mod programs;
 mod steps;
+mod tables;
 mod vectors;
 mod walk;
 mod words;

@@ -8,6 +8,7 @@ ghost use Rattle.cairo_commands.specs.Parts.{request};
 use crate::commands::asm::asm_command;
 use crate::commands::check::check_command;
 use crate::commands::dis::dis_command;
+use crate::commands::tables::tables_command;
 use crate::commands::walk::walk_command;
 
 /// A command with the names that it is given.
@@ -33,6 +34,19 @@ pub(crate) enum Command<'w> {
         program: &'w str,
         /// The name of the text.
         text: &'w str,
+    },
+    /// Tables are built of a run.
+    Tables {
+        /// The name of the program file.
+        program: &'w str,
+        /// The name of the public input.
+        public: &'w str,
+        /// The name of the trace file.
+        trace: &'w str,
+        /// The name of the memory file.
+        memory: &'w str,
+        /// The name of the tables.
+        tables: &'w str,
     },
     /// Do tables meet every written constraint?
     Check {
@@ -65,6 +79,7 @@ fn named_command<'w>(command: &str, names: &'w [String]) -> Option<Command<'w>>
         "walk" => walk_command(names),
         "asm" => asm_command(names),
         "dis" => dis_command(names),
+        "tables" => tables_command(names),
         "check" => check_command(names),
         _ => None,
     }

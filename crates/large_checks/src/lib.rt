@@ -1,4 +1,4 @@
-//! Calls of `check` on files that are too large to stand among the tests of the commands.
+//! Calls of `tables` and `check` on files that are too large to stand among the tests of the commands.
 #![tactic(auto)]
 
 #[cfg(test)]

@@ -1,6 +1,6 @@
-//! Tables of a long run, files above the most bytes that they may have, and public inputs of the most cells and more.
+//! Tables of a long run, which are built and checked, files above their most bytes, and public inputs of too many cells.
 
-use crate::loop_of_twenty::{FILLERS, FRONT, PROGRAM, PUBLIC, SORTED};
+use crate::loop_of_twenty::{FILLERS, FRONT, MEMORY, PROGRAM, PUBLIC, SORTED, TRACE};
 use cairo_commands::Status::{self, Done, Input, Limit};
 use cairo_commands::perform;
 use file_port::{MemorySink, MemoryStore};
@@ -10,6 +10,27 @@ use std::test::Fail;
 
 const CHECK: &[&str] = &["check", "P", "U", "T"];
 
+const TABLES: &[&str] = &["tables", "P", "U", "S", "M", "T"];
+
+/// Calls a command, and looks at its status and at what it printed.
+fn call(
+    rt: &impl Abort,
+    alloc: Global,
+    command: &[&str],
+    store: &mut MemoryStore,
+    wanted: (Status, &str),
+) -> Result<(), AllocError> {
+    let mut words = Vec::new(alloc);
+    for word in command {
+        words.push(String::from_str(alloc, word)?)?;
+    }
+    let mut sink = MemorySink::new(alloc, Vec::new(alloc));
+    let status = perform(alloc, &words, store, &mut sink);
+    assert_eq!(rt; status, wanted.0);
+    assert_eq!(rt; sink.bytes(), wanted.1.as_bytes());
+    Ok(())
+}
+
 /// Calls `check` on files of these bytes, and looks at its status and at what it printed.
 fn check(
     rt: &impl Abort,
@@ -17,21 +38,13 @@ fn check(
     files: [Vec<u8>; 3],
     wanted: (Status, &str),
 ) -> Result<(), AllocError> {
-    let mut words = Vec::new(alloc);
-    for word in CHECK {
-        words.push(String::from_str(alloc, word)?)?;
-    }
     let [program, public, tables] = files;
     let mut list = Vec::new(alloc);
     list.push((String::from_str(alloc, "P")?, program))?;
     list.push((String::from_str(alloc, "U")?, public))?;
     list.push((String::from_str(alloc, "T")?, tables))?;
     let mut store = MemoryStore::new(list, Vec::new(alloc));
-    let mut sink = MemorySink::new(alloc, Vec::new(alloc));
-    let status = perform(alloc, &words, &mut store, &mut sink);
-    assert_eq!(rt; status, wanted.0);
-    assert_eq!(rt; sink.bytes(), wanted.1.as_bytes());
-    Ok(())
+    call(rt, alloc, CHECK, &mut store, wanted)
 }
 
 /// Appends the numbers of each run, one after another.
@@ -64,6 +77,37 @@ fn a_loop_of_twenty_is_accepted(rt: HostRuntime) -> Result<(), Fail> {
     assert_eq!(rt; tables.len(), 1027560);
     let files = [program, public, tables];
     check(&rt, alloc, files, (Done, "check: accepted, 109 steps\n"))?;
+    Ok(())
+}
+
+/// The bytes of these numbers, one after another.
+fn bytes_of(alloc: Global, numbers: &[u64]) -> Result<Vec<u8>, AllocError> {
+    let mut bytes = Vec::new(alloc);
+    for number in numbers {
+        bytes.extend_from_slice(&number.to_le_bytes())?;
+    }
+    Ok(bytes)
+}
+
+#[test]
+fn the_tables_of_twenty_are_built(rt: HostRuntime) -> Result<(), Fail> {
+    let alloc = rt.alloc();
+    let program = Vec::from_slice(alloc, PROGRAM.as_bytes())?;
+    let public = Vec::from_slice(alloc, PUBLIC.as_bytes())?;
+    let trace = bytes_of(alloc, TRACE)?;
+    let memory = bytes_of(alloc, MEMORY)?;
+    let mut list = Vec::new(alloc);
+    list.push((String::from_str(alloc, "P")?, program))?;
+    list.push((String::from_str(alloc, "U")?, public))?;
+    list.push((String::from_str(alloc, "S")?, trace))?;
+    list.push((String::from_str(alloc, "M")?, memory))?;
+    let mut store = MemoryStore::new(list, Vec::new(alloc));
+    let built = "tables: 109 steps, 1027560 bytes\n";
+    call(&rt, alloc, TABLES, &mut store, (Done, built))?;
+    let wanted = tables_of_twenty(alloc)?;
+    assert!(rt; store.file("T") == Some(wanted.as_slice()), "the tables");
+    let accepted = "check: accepted, 109 steps\n";
+    call(&rt, alloc, CHECK, &mut store, (Done, accepted))?;
     Ok(())
 }
 

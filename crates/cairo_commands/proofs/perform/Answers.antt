@@ -1,6 +1,7 @@
-use Rattle.cairo_commands.specs.Reply.{request_of}
+use Rattle.cairo_commands.specs.Reply.{request_of, texts}
 use Rattle.cairo_commands.proofs.Evidence.{IfSome-held}
 use Rattle.cairo_commands.proofs.Evidence.{Evidence-of_call, Leaves-of_call, Replied-of_call}
+use Rattle.cairo_commands.proofs.AskedNames.{KeepsNames-asked}
 use Rattle.cairo_commands.proofs.Means.{Means-from_reply}
 use Rattle.cairo_commands.proofs.perform.Goals as goal
 
@@ -12,7 +13,7 @@ returns-clause-means g c =
     let sink_after = g.K.Sink.seen c.print.new.sink in
     let request = request_of c.args.words.now in
     IfSome-held before.files _ (λ files held decided.
-    Means-from_reply files c.print.result after sink_before sink_after request
+    Means-from_reply files c.print.result after sink_before sink_after request (KeepsNames-asked (texts c.args.words.now))
     (Replied-of_call before after sink_before sink_after c.print.result c.carry_out-ending.result c.print.ensures.prints c.print.ensures.sink_faults request files c.carry_out-ending.ensures.carries held decided))
 
 pub returns-clause-evidence : goal.returns-clause-evidence

@@ -5,7 +5,7 @@ use super::vectors::{
     FOUR_STEPS_PROGRAM, FOUR_STEPS_PUBLIC, JUMP_NOT_TAKEN, JUMP_NOT_TAKEN_PROGRAM,
     JUMP_NOT_TAKEN_PUBLIC, JUMP_TAKEN, JUMP_TAKEN_PROGRAM, JUMP_TAKEN_PUBLIC, OFFSET_OUT_OF_RANGE,
     OUTPUT_CELL, OUTPUT_CELL_PROGRAM, OUTPUT_CELL_PUBLIC, Part, RANGE_CELL, RANGE_CELL_PROGRAM,
-    RANGE_CELL_PUBLIC,
+    RANGE_CELL_PUBLIC, wide_bytes,
 };
 use super::{bytes_of, check, store_of, words_of};
 use crate::Status::{self, Done, Input, Limit, Missing, Refused, Sink, Store as StoreFault};
@@ -87,7 +87,7 @@ const CELL_ADDED: &str =
     r#"{"ap_first":"0xc","ap_last":"0xf","cells":[["0xa","0xc"],["0xb","0x0"],["0xc","0xd"]],"range_begin":"0x0","range_count":0,"rc_max":32769,"rc_min":32766,"steps":4}"#;
 
 /// The program of the four steps with the end 5.
-const END_5: &str =
+pub const END_5: &str =
     r#"{"builtins":[],"data":["0x40780017fff7fff","0x0","0x1104800180018000","0x4","0x10780017fff7fff","0x0","0x480680017fff8000","0x19","0x208b7fff7fff7ffe"],"end":5,"prime":"0xffffffff00000001","start":0}"#;
 
 /// The public input of the four steps with five of them.
@@ -95,7 +95,7 @@ const FIVE_STEPS: &str =
     r#"{"ap_first":"0xc","ap_last":"0xf","cells":[["0xa","0xc"],["0xb","0x0"]],"range_begin":"0x0","range_count":0,"rc_max":32769,"rc_min":32766,"steps":5}"#;
 
 /// The program of the four steps with another start.
-const START_1: &str =
+pub const START_1: &str =
     r#"{"builtins":[],"data":["0x40780017fff7fff","0x0","0x1104800180018000","0x4","0x10780017fff7fff","0x0","0x480680017fff8000","0x19","0x208b7fff7fff7ffe"],"end":4,"prime":"0xffffffff00000001","start":1}"#;
 
 /// The program of the four steps with an end that is none of its words.
@@ -371,32 +371,6 @@ const WIDE: &[(&str, &str, &[Part], Status, &str)] = &[
         "check: refused: Q4 row 1\n",
     ),
 ];
-
-/// The bytes of tables of these parts.
-fn wide_bytes(alloc: Global, parts: &[Part]) -> Result<Vec<u8>, AllocError> {
-    let mut bytes = Vec::from_slice(alloc, b"CAIROGT1")?;
-    for part in parts {
-        match part {
-            Part::Numbers(numbers) => {
-                for number in *numbers {
-                    bytes.extend_from_slice(&number.to_le_bytes())?;
-                }
-            }
-            Part::Run(first, count) => {
-                for k in 0..*count {
-                    bytes.extend_from_slice(&first.saturating_add(k).to_le_bytes())?;
-                }
-            }
-            Part::Cells(first, count) => {
-                for k in 0..*count {
-                    bytes.extend_from_slice(&first.saturating_add(k).to_le_bytes())?;
-                    bytes.extend_from_slice(&[0; 8])?;
-                }
-            }
-        }
-    }
-    Ok(bytes)
-}
 
 /// Programs and public inputs of which one spells nothing, and what is answered.
 const NO_INPUTS: &[(&str, &str, Status, &str)] = &[

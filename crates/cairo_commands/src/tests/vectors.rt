@@ -1,4 +1,6 @@
-//! Files from outside: programs, public inputs, assembly texts, and the numbers of tables files behind their text.
+//! Files from outside: programs, public inputs, assembly texts, and the numbers of traces, memories and tables files.
+
+use std::alloc::{AllocError, Global};
 
 /// The program of four steps.
 #[rattlefmt::skip]
@@ -145,6 +147,7 @@ pub const RANGE_CELL_PROGRAM: &str = "{\"builtins\":[\"range_check\"],\"data\":[
 pub const LOOP_OF_TWENTY_PROGRAM: &str = "{\"builtins\":[\"output\",\"range_check\"],\"data\":[\"0x40780017fff7fff\",\"0x2\",\"0x1104800180018000\",\"0x4\",\"0x10780017fff7fff\",\"0x0\",\"0x480a7ffd7fff8000\",\"0x40780017fff7fff\",\"0x1\",\"0x480680017fff8000\",\"0x14\",\"0x400080007ffd7ffe\",\"0x482480017ffd8000\",\"0x1\",\"0x482480017ffd8000\",\"0x3039\",\"0x482480017ffd8000\",\"0xffffffff00000000\",\"0x20680017fff7fff\",\"0xfffffffefffffffa\",\"0x400280007ffc7ffe\",\"0x482680017ffc8000\",\"0x1\",\"0x48127ffc7fff8000\",\"0x208b7fff7fff7ffe\"],\"end\":4,\"prime\":\"0xffffffff00000001\",\"start\":0}";
 
 /// A part of the numbers of wide tables.
+#[derive(Clone, Copy)]
 pub enum Part {
     /// These numbers.
     Numbers(&'static [u64]),
@@ -152,6 +155,32 @@ pub enum Part {
     Run(u64, u64),
     /// So many cells of value 0, the addresses being such a run.
     Cells(u64, u64),
+}
+
+/// The bytes of tables of these parts.
+pub fn wide_bytes(alloc: Global, parts: &[Part]) -> Result<Vec<u8>, AllocError> {
+    let mut bytes = Vec::from_slice(alloc, b"CAIROGT1")?;
+    for part in parts {
+        match part {
+            Part::Numbers(numbers) => {
+                for number in *numbers {
+                    bytes.extend_from_slice(&number.to_le_bytes())?;
+                }
+            }
+            Part::Run(first, count) => {
+                for k in 0..*count {
+                    bytes.extend_from_slice(&first.saturating_add(k).to_le_bytes())?;
+                }
+            }
+            Part::Cells(first, count) => {
+                for k in 0..*count {
+                    bytes.extend_from_slice(&first.saturating_add(k).to_le_bytes())?;
+                    bytes.extend_from_slice(&[0; 8])?;
+                }
+            }
+        }
+    }
+    Ok(bytes)
 }
 
 /// The tables of a run with a range cell.
@@ -206,3 +235,55 @@ pub const OFFSET_OUT_OF_RANGE: &[Part] = &[
 /// The public input of the range cell.
 #[rattlefmt::skip]
 pub const RANGE_CELL_PUBLIC: &str = "{\"ap_first\":\"0xa\",\"ap_last\":\"0xd\",\"cells\":[[\"0x8\",\"0xa\"],[\"0x9\",\"0x0\"],[\"0xa\",\"0xd\"],[\"0xc\",\"0xe\"]],\"range_begin\":\"0xd\",\"range_count\":1,\"rc_max\":65535,\"rc_min\":32767,\"steps\":3}";
+
+/// ap, fp and pc of each state of jump taken.
+#[rattlefmt::skip]
+pub const JUMP_TAKEN_TRACE: &[u64] = &[
+    11, 11, 1, 12, 11, 3, 12, 11, 7,
+];
+
+/// Address and value of each of its cells.
+#[rattlefmt::skip]
+pub const JUMP_TAKEN_MEMORY: &[u64] = &[
+    1, 5189976364521848832, 2, 2, 3, 145944781866893311, 4, 4, 5, 74168662805676031, 6, 0, 7, 74168662805676031, 8,
+    0, 9, 11, 10, 0, 11, 2,
+];
+
+/// ap, fp and pc of each state of jump not taken.
+#[rattlefmt::skip]
+pub const JUMP_NOT_TAKEN_TRACE: &[u64] = &[
+    11, 11, 1, 12, 11, 3, 12, 11, 5,
+];
+
+/// Address and value of each of its cells.
+#[rattlefmt::skip]
+pub const JUMP_NOT_TAKEN_MEMORY: &[u64] = &[
+    1, 5189976364521848832, 2, 0, 3, 145944781866893311, 4, 4, 5, 74168662805676031, 6, 0, 7, 74168662805676031, 8,
+    0, 9, 11, 10, 0, 11, 0,
+];
+
+/// ap, fp and pc of each state of output cell.
+#[rattlefmt::skip]
+pub const OUTPUT_CELL_TRACE: &[u64] = &[
+    12, 12, 1, 13, 12, 3, 14, 12, 5, 14, 12, 6, 15, 12, 8,
+];
+
+/// Address and value of each of its cells.
+#[rattlefmt::skip]
+pub const OUTPUT_CELL_MEMORY: &[u64] = &[
+    1, 290341444919459839, 2, 1, 3, 5189976364521848832, 4, 7, 5, 4612389708016680959, 6, 5198983563776655360, 7, 1,
+    8, 74168662805676031, 9, 0, 10, 12, 11, 0, 12, 15, 13, 7, 14, 16, 15, 7,
+];
+
+/// ap, fp and pc of each state of range cell.
+#[rattlefmt::skip]
+pub const RANGE_CELL_TRACE: &[u64] = &[
+    10, 10, 1, 11, 10, 3, 12, 10, 4, 13, 10, 6,
+];
+
+/// Address and value of each of its cells.
+#[rattlefmt::skip]
+pub const RANGE_CELL_MEMORY: &[u64] = &[
+    1, 290341444919459839, 2, 1, 3, 5188850460320104448, 4, 5198983563776655360, 5, 1, 6, 74168662805676031, 7, 0,
+    8, 10, 9, 0, 10, 13, 11, 281474976710655, 12, 14, 13, 281474976710655,
+];
