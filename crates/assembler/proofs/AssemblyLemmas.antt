@@ -7,6 +7,7 @@ use Rattle.std.proofs.lemmas.List.{length-append, append_assoc, append-nil, map-
 use Rattle.std.proofs.lemmas.List.Sums.{sum_by-append, sum_by-cons}
 use Rattle.goldilocks.specs.declared.Felt.{Felt}
 use Rattle.goldilocks.specs.Field.{field_sub}
+use Rattle.goldilocks.specs.Felts.{felt}
 use Rattle.casm_word.specs.declared.Word.{Word}
 use Rattle.casm_word.specs.Word.{word_number}
 use Rattle.casm_statements.specs.declared.Stmt.{Stmt}
@@ -15,7 +16,6 @@ use Rattle.casm_statements.specs.declared.Body.TheVariants as body
 use Rattle.casm_statements.specs.declared.Item.{Item}
 use Rattle.casm_text.specs.Meaning.{bodies}
 use Rattle.casm_statements.specs.Words.{encoding, with_operand, with_term, with_immediate}
-use Rattle.casm_statements.specs.Felts.{felt}
 use Rattle.casm_statements.specs.Label.{same_text}
 use Rattle.assembler.specs.StatementWords.{statement_words}
 use Rattle.assembler.specs.Assembly.{body_size, word_count, label_in, label_at, labels_from, labels_of, value_in, label_named, distance_to, body_words, words_from, words_of, first_given, distance}

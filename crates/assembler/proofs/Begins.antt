@@ -10,6 +10,8 @@ use Rattle.std.proofs.lemmas.Bool.Decides.{nat_tests, Decides-int_eq}
 use Rattle.std.proofs.lemmas.Int.{ints}
 use Rattle.goldilocks.specs.Field.{prime}
 use Rattle.goldilocks.specs.declared.Felt.{Felt}
+use Rattle.goldilocks.specs.Felts.{felt}
+use Rattle.goldilocks.proofs.Pairs.{same_felt}
 use Rattle.casm_word.specs.declared.Word.{Word}
 use Rattle.casm_word.specs.declared.Flags.{Flags}
 use Rattle.casm_word.specs.declared.Shape.{Shape}
@@ -18,21 +20,17 @@ use Rattle.casm_word.specs.declared.WordFault.TheVariants.{HighBit}
 use Rattle.casm_word.specs.Word.{offset, word_of, flags_of, first_broken, unless_broken, decoding, word_number}
 use Rattle.casm_word.proofs.Encoding.{decoding-number, decoded_number}
 use Rattle.casm_statements.specs.declared.Stmt.{Stmt}
-use Rattle.casm_statements.specs.Felts.{felt}
 use Rattle.casm_statements.specs.Words.{encoding}
 use Rattle.casm_statements.specs.Guesses.{stmt_in, flag_list}
-use Rattle.casm_statements.proofs.Felts.{same_felt}
 use Rattle.casm_statements.proofs.Guesses.{stmt_is, only_stmt, same_flags}
 use Rattle.assembler.specs.StatementWords.{statement_words, HasOffsets, BeginsWith, BeginsWithNone}
 use Rattle.assembler.proofs.DefinedWords.{is_defined, has_immediate}
 
 -- a value of the field is that of its number
 pub felt-number : (v : Felt) → felt v.number ≡ v
-unfolding felt
 felt-number v = same_felt (felt v.number) v (mod-eq_of_lt v.in_field)
 
 number-felt : (n : ℕ) → n < prime → (felt n).number ≡ n
-unfolding felt
 number-felt n h = mod-eq_of_lt h
 
 -- what a number that decodes is

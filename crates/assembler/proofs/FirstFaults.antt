@@ -6,7 +6,7 @@ use Rattle.casm_text.specs.Meaning.{bodies}
 use Rattle.assembler.specs.declared.fault.AsmFault.{AsmFault}
 use Rattle.assembler.specs.declared.fault.AsmFault.TheVariants.{Duplicate, TooLong, Unknown, NoEnd, StartOutside, EndOutside, Memory}
 use Rattle.assembler.specs.Assembly.{word_count, labels_of, first_given, start_in, end_in, target_place, start_place, end_place}
-use Rattle.assembler.specs.Faults.{most_words, RepeatsAt, unknown_in, Holds, rank, HasNoFault, IsFirstFault, TellsFault}
+use Rattle.assembler.specs.Faults.{most_words, RepeatsAt, unknown_in, HasAsmFault, rank, HasNoFault, IsFirstFault, TellsFault}
 use Rattle.assembler.specs.Views.{TellsFirstRepeat, TellsFirstUnknown, TellsPlace}
 use Rattle.assembler.proofs.Unknowns.{names_unknown}
 
@@ -20,7 +20,7 @@ pub record Sound (items : List Item) : Type 0 where
   pub end_inside : end_place (bodies items) < word_count (bodies items)
 
 -- none of the faults below a rank is there
-pub none_before : (items : List Item) (n : ℕ) → (0 < n → (k : ℕ) (i : Item) → RepeatsAt items k i → ⊥) → (1 < n → word_count (bodies items) ≤ most_words) → (2 < n → find (names_unknown (labels_of (bodies items))) items ≡ None) → (3 < n → first_given end_in (bodies items) ≡ None → ⊥) → (4 < n → start_place (bodies items) < word_count (bodies items)) → (5 < n → end_place (bodies items) < word_count (bodies items)) → (f : AsmFault) → rank f < n → Holds items f → ⊥
+pub none_before : (items : List Item) (n : ℕ) → (0 < n → (k : ℕ) (i : Item) → RepeatsAt items k i → ⊥) → (1 < n → word_count (bodies items) ≤ most_words) → (2 < n → find (names_unknown (labels_of (bodies items))) items ≡ None) → (3 < n → first_given end_in (bodies items) ≡ None → ⊥) → (4 < n → start_place (bodies items) < word_count (bodies items)) → (5 < n → end_place (bodies items) < word_count (bodies items)) → (f : AsmFault) → rank f < n → HasAsmFault items f → ⊥
 none_before items n new short known has_end start_inside end_inside (Duplicate line) low h = new low h.at h.item h.repeats
 none_before items n new short known has_end start_inside end_inside TooLong low h = let m = short low in omega arith
 none_before items n new short known has_end start_inside end_inside (Unknown name line) low h = none-some h.item (sym (known low) ∙ h.found)

@@ -12,7 +12,7 @@ use Rattle.assembler.specs.declared.Assembled.{Assembled}
 use Rattle.assembler.specs.declared.fault.AsmFault.{AsmFault}
 use Rattle.assembler.specs.declared.fault.AsmFault.TheVariants.{Duplicate, TooLong, Unknown, NoEnd, StartOutside, EndOutside, Memory}
 use Rattle.assembler.specs.Assembly.{word_count, labels_of, words_of, first_given, end_in, start_place, end_place, builtins_of}
-use Rattle.assembler.specs.Faults.{most_words, is_given_again, RepeatsAt, IsFirstRepeat, unknown_in, IsFirstUnknown, Holds, rank, HasNoFault, IsFirstFault, TellsFault}
+use Rattle.assembler.specs.Faults.{most_words, is_given_again, RepeatsAt, IsFirstRepeat, unknown_in, IsFirstUnknown, HasAsmFault, rank, HasNoFault, IsFirstFault, TellsFault}
 use Rattle.assembler.specs.Assembling.{Assembly, assembly_of, seen_assembly, first_repeat, unknown_fault, first_unknown, first_fault, unless_fault, assembling}
 use Rattle.assembler.proofs.Unknowns.{names_unknown}
 use Rattle.assembler.proofs.FirstFaults.{none_before, sound_has_none, length_told}
@@ -265,7 +265,7 @@ one_unknown items n m a b h g =
     let lines = sym h.line_is ∙ (ap (λ (i : Item). i.line) same ∙ g.line_is) in
     ap (λ (x : List ℕ). Unknown x a) names ∙ ap (λ (x : ℕ). Unknown m x) lines
 
-same_fault : (items : List Item) (f g : AsmFault) → rank f ≡ rank g → Holds items f → Holds items g → f ≡ g
+same_fault : (items : List Item) (f g : AsmFault) → rank f ≡ rank g → HasAsmFault items f → HasAsmFault items g → f ≡ g
 same_fault items (Duplicate a) (Duplicate b) e h k = ap (λ (x : ℕ). Duplicate x) (one_repeat items a b h k)
 same_fault items (Duplicate a) g e h k = absurd (omega arith)
 same_fault items TooLong TooLong e h k = refl

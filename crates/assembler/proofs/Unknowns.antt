@@ -7,7 +7,7 @@ use Rattle.assembler.specs.declared.fault.AsmFault.TheVariants.{Duplicate, TooLo
 use Rattle.assembler.specs.Faults.{unknown_in}
 use Rattle.assembler.specs.Views.{TellsUnknown, TellsFirstUnknown}
 
--- an item that names a label which these lack
+-- an item that names a label which isn't one of these
 abbrev pub names_unknown : List (List ℕ × ℕ) → Item → Bool
 names_unknown labels i = is_some (unknown_in labels i.body)
 

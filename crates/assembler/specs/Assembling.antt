@@ -13,8 +13,8 @@ use Rattle.assembler.specs.declared.fault.AsmFault.TheVariants.{Duplicate, TooLo
 use Rattle.assembler.specs.Assembly.{word_count, labels_of, words_of, first_given, end_in, start_place, end_place, builtins_of}
 use Rattle.assembler.specs.Faults.{most_words, is_given_again, unknown_in}
 
--- A program with the labels of its text: its words, the labels with the number of words before each, where it starts and
--- ends, and whether it has output cells and range-checked ones. Own.
+-- A program with the labels of its text. It has the words, and the labels with the number of words before each. It says
+-- where the program starts and ends, and whether it has output cells and range-checked ones. Own.
 pub record Assembly : Type 0 where
   pub words : List Felt
   pub labels : List (List ℕ × ℕ)

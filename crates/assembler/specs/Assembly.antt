@@ -5,6 +5,7 @@ use Rattle.std.specs.Option.{option_or}
 use Rattle.std.specs.Map.{lookup}
 use Rattle.goldilocks.specs.declared.Felt.{Felt}
 use Rattle.goldilocks.specs.Field.{field_sub}
+use Rattle.goldilocks.specs.Felts.{felt}
 use Rattle.casm_statements.specs.declared.Term.TheVariants as term
 use Rattle.casm_statements.specs.declared.Operand.TheVariants as operand
 use Rattle.casm_statements.specs.declared.Stmt.TheVariants.{Jump, Branch, Call}
@@ -12,7 +13,6 @@ use Rattle.casm_statements.specs.declared.Target.{Target}
 use Rattle.casm_statements.specs.declared.Target.TheVariants.{Number, Name}
 use Rattle.casm_statements.specs.declared.Body.{Body}
 use Rattle.casm_statements.specs.declared.Body.TheVariants as body
-use Rattle.casm_statements.specs.Felts.{felt}
 use Rattle.casm_statements.specs.Label.{same_text}
 use Rattle.assembler.specs.StatementWords.{statement_words}
 

@@ -46,7 +46,7 @@ unless_known labels (Some n) = if is_some (value_in labels n) then None else Som
 abbrev pub unknown_in : List (List ℕ × ℕ) → Body → Option (List ℕ)
 unknown_in labels b = unless_known labels (label_named b)
 
--- This is the name, and the line, of the first item that names a label which the items lack. Own.
+-- This is the name, and the line, of the first item that names a label which isn't there among them. Own.
 pub record IsFirstUnknown (items : List Item) (missing : List ℕ) (number : ℕ) : Type 0 where
   pub item : Item
   pub found : find (λ i. is_some (unknown_in (labels_of (bodies items)) i.body)) items ≡ Some item
@@ -55,14 +55,14 @@ pub record IsFirstUnknown (items : List Item) (missing : List ℕ) (number : ℕ
 
 -- The fault is there. A label or a directive is given twice. There are more than 2^18 words. An item names a label that
 -- isn't there. There is no end. The start isn't below the number of words, or the end isn't. Own.
-abbrev pub Holds : List Item → AsmFault → Type 0
-Holds items (Duplicate line) = IsFirstRepeat items line
-Holds items TooLong = most_words < word_count (bodies items)
-Holds items (Unknown name line) = IsFirstUnknown items name line
-Holds items NoEnd = first_given end_in (bodies items) ≡ None
-Holds items StartOutside = word_count (bodies items) ≤ start_place (bodies items)
-Holds items EndOutside = word_count (bodies items) ≤ end_place (bodies items)
-Holds items Memory = ⊥
+abbrev pub HasAsmFault : List Item → AsmFault → Type 0
+HasAsmFault items (Duplicate line) = IsFirstRepeat items line
+HasAsmFault items TooLong = most_words < word_count (bodies items)
+HasAsmFault items (Unknown name line) = IsFirstUnknown items name line
+HasAsmFault items NoEnd = first_given end_in (bodies items) ≡ None
+HasAsmFault items StartOutside = word_count (bodies items) ≤ start_place (bodies items)
+HasAsmFault items EndOutside = word_count (bodies items) ≤ end_place (bodies items)
+HasAsmFault items Memory = ⊥
 
 -- The order in which faults are told. Own.
 abbrev pub rank : AsmFault → ℕ
@@ -76,12 +76,12 @@ rank Memory = 6
 
 -- Items that can be assembled: none of the faults is there. Own.
 abbrev pub HasNoFault : List Item → Type 0
-HasNoFault items = (f : AsmFault) → Holds items f → ⊥
+HasNoFault items = (f : AsmFault) → HasAsmFault items f → ⊥
 
 -- The fault is there, and none that is told before it is. Own.
 pub record IsFirstFault (items : List Item) (f : AsmFault) : Type 0 where
-  pub holds : Holds items f
-  pub first : (g : AsmFault) → rank g < rank f → Holds items g → ⊥
+  pub holds : HasAsmFault items f
+  pub first : (g : AsmFault) → rank g < rank f → HasAsmFault items g → ⊥
 
 -- A refusal is the first fault, unless there was no memory. Own.
 abbrev pub TellsFault : List Item → AsmFault → Type 0

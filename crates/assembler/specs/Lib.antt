@@ -6,8 +6,9 @@ pub mod Assembling
 pub mod FaultText
 pub mod Disassembly
 pub mod Views
-pub use Rattle.casm_statements.specs.Felts
+pub use Rattle.goldilocks.specs.Felts
 pub use Rattle.casm_statements.specs.Label
 pub use Rattle.casm_statements.specs.Words
 pub use Rattle.casm_text.specs.Canonical
 pub use Rattle.casm_text.specs.Meaning
+pub use Rattle.casm_tokens.specs.Limits

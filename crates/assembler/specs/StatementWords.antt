@@ -4,9 +4,9 @@ use Rattle.std.specs.Prelude.{◌≡◌, List, ◌∷◌, ◌++◌, FitsSigned}
 use Rattle.std.specs.Int.{w16}
 use Rattle.std.specs.Option.{option_to_list}
 use Rattle.goldilocks.specs.declared.Felt.{Felt}
+use Rattle.goldilocks.specs.Felts.{felt}
 use Rattle.casm_word.specs.Word.{word_number}
 use Rattle.casm_statements.specs.declared.Stmt.{Stmt}
-use Rattle.casm_statements.specs.Felts.{felt}
 use Rattle.casm_statements.specs.Words.{encoding}
 
 -- The words of a statement: the number of its instruction word, and behind it the immediate, where it has one. The

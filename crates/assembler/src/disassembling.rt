@@ -2,6 +2,7 @@
 #![tactic(auto)]
 
 ghost use Rattle.std.specs.Prelude.{◌≡◌, ◌≤◌, ◌<◌, ◌+◌, ◌^◌, ◌++◌, [], ◌∷◌, length, IfOk, OnOk};
+ghost use Rattle.casm_tokens.specs.Limits.{most_bytes};
 ghost use Rattle.casm_text.specs.Canonical.{printed};
 ghost use Rattle.assembler.specs.Disassembly.{builtins_directive, on_lines, Disassembles, AssemblesTo};
 ghost use Rattle.assembler.specs.Faults.{most_words};
@@ -15,6 +16,7 @@ use std::alloc::{AllocError, Global};
 /// The items of a program, on lines of their own: its directives, and what its words show.
 ///
 /// A word that has a statement is that statement, with its immediate where it needs one; any other word is a number.
+/// There are at most 2^18 words.
 pub fn disassemble(
     alloc: Global,
     words: &[Felt],
@@ -31,7 +33,7 @@ pub fn disassemble(
         IfOk result (λ items. AssemblesTo words.now start end output range items.items) }
 
     // Their text isn't too long to be read again.
-    ensures text { IfOk result (λ items. length (printed items.items) ≤ 16777216) }
+    ensures text { IfOk result (λ items. length (printed items.items) ≤ most_bytes) }
 {
     let mut items = Vec::with_capacity(alloc, words.len() + 3)?;
     push_builtins(&mut items, output, range)?;

@@ -25,7 +25,7 @@ pub fn shown_laws()
         Shown (flat_map statement_words stmts) (map Body.Stmt stmts) }
 {}
 
-/// A label has the number of the words before it as its value, where it isn't given before; and the words of a body stand
+/// A label has the number of the words before it as its value, where it isn't given before. The words of a body stand
 /// behind those of the bodies before it.
 pub fn place_laws()
     ensures label { (before after : List Body) (n : List ℕ) → value_in (labels_of before) n ≡ None →

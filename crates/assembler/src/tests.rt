@@ -232,9 +232,9 @@ fn labels_stand_in_their_order(rt: HostRuntime) -> Result<(), Fail> {
         Ok(found) => {
             let mut at = 0;
             for (name, value) in &found.labels {
-                assert!(rt; at < want.len());
-                assert_eq!(rt; name.text(), want[at].0);
-                assert_eq!(rt; *value, want[at].1);
+                assert!(rt; at < want.len(), "label {at}: there is one");
+                assert_eq!(rt; name.text(), want[at].0, "label {at}: the name");
+                assert_eq!(rt; *value, want[at].1, "label {at}: the value");
                 at += 1;
             }
             assert_eq!(rt; at, want.len());
@@ -353,15 +353,16 @@ fn items_have_the_lines_from_one(rt: HostRuntime) -> Result<(), Fail> {
         let items = disassemble(rt.alloc(), &words, 70000, 80000, output, false)?;
         let mut line = 0;
         for item in &items {
-            assert!(rt; line < 10);
+            assert!(rt; line < 10, "output {output}, line {line}: not too many");
             line += 1;
-            assert_eq!(rt; item.line, line);
+            assert_eq!(rt; item.line, line, "output {output}, line {line}");
         }
-        assert_eq!(rt; line, if output { 6 } else { 5 });
+        let lines = if output { 6 } else { 5 };
+        assert_eq!(rt; line, lines, "output {output}: the number of lines");
     }
     for (fault, want) in [(AsmFault::TooLong, "TooLong"), (AsmFault::Memory, "Memory")] {
         let text = format!(in rt.alloc(); "{fault}")?;
-        assert_eq!(rt; text.as_str(), want);
+        assert_eq!(rt; text.as_str(), want, "{fault:?}: the text");
     }
     Ok(())
 }

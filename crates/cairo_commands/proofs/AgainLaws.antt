@@ -1,11 +1,11 @@
--- A text that is written for a program is assembled to the program again, and a program file that is written for a text
--- is shown as the text's words again.
+-- A text that is written for a program is assembled to the program again. A program file that is written for a text is
+-- shown as the text's words again.
 use Rattle.std.proofs.Common.{◌≡◌, ◌<◌, ◌^◌, List, [], ◌∷◌, length, refl, sym, ap, ◌∙◌, arith}
 use Rattle.std.specs.FinMap.{insert}
 use Rattle.file_port.specs.Files.{Name, Files}
 use Rattle.casm_statements.specs.declared.Item.{Item}
 use Rattle.casm_text.specs.Canonical.{printed}
-use Rattle.casm_text.specs.Meaning.{bodies, Means}
+use Rattle.casm_text.specs.Meaning.{bodies, MeansBodies}
 use Rattle.casm_text.proofs.ReadsBack.{printed-means}
 use Rattle.assembler.specs.Assembling.{assembly_of}
 use Rattle.assembler.specs.Disassembly.{AssemblesTo}
@@ -14,12 +14,12 @@ use Rattle.assembler.proofs.Lines.{assembles_too}
 use Rattle.assembler.proofs.TextSizes.{text_fits}
 use Rattle.program_file.specs.Listing.{Listing, IsProgram}
 use Rattle.program_file.specs.Format.{written as program_bytes}
-use Rattle.program_file.proofs.WrittenPrograms.{Spells-written}
+use Rattle.program_file.proofs.WrittenPrograms.{SpellsProgram-written}
 use Rattle.cairo_commands.specs.declared.status.Status.TheVariants.{Done}
 use Rattle.cairo_commands.specs.Answer.{Answer, written}
-use Rattle.cairo_commands.specs.Programs.{listing_of, items_of}
+use Rattle.cairo_commands.specs.Programs.{HoldsProgram, listing_of, items_of}
 use Rattle.cairo_commands.specs.Commands.Asm.{asm_answer, asm_line, Assembles}
-use Rattle.cairo_commands.specs.Commands.Dis.{dis_answer, text_answer, HoldsProgram}
+use Rattle.cairo_commands.specs.Commands.Dis.{dis_answer, text_answer}
 use Rattle.cairo_commands.proofs.ProgramReadings.{Disassembles-items_of, IsProgram-assembly}
 use Rattle.cairo_commands.proofs.AsmTheorem.{asm_answer-assembled}
 use Rattle.cairo_commands.proofs.DisTheorem.{dis_answer-shown}
@@ -52,7 +52,7 @@ module _ (text : Name) (files : Files) (p : Listing) (program : IsProgram p) whe
   end_low : p.end < 2 ^ 32
   end_low = omega (arith, program.end_inside, program.few_words)
 
-  read_back : Means (printed (items_of p)) (bodies (items_of p))
+  read_back : MeansBodies (printed (items_of p)) (bodies (items_of p))
   read_back =
       printed-means (items_of p) (disassembled_bodies p.words p.start p.end p.builtins.output p.builtins.range (items_of p) start_low end_low (Disassembles-items_of p))
 
@@ -90,7 +90,7 @@ HoldsProgram-written program files p is = record {
   held = held_last files program (program_bytes p);
   short = written_fits p is;
   listed = p;
-  spelled = Spells-written p is;
+  spelled = SpellsProgram-written p is;
 }
 
 pub dis-of_asm : (text program copy : Name) (files : Files) (asm : Assembles text files) → dis_answer program copy (written (asm_answer text program files).writes files) ≡ text_answer copy (listing_of (assembly_of asm.items))

@@ -13,7 +13,7 @@ use Rattle.cairo_commands.specs.Answer.{Answer, Input, Task, missing, over_limit
 use Rattle.cairo_commands.specs.Request.{Request}
 use Rattle.cairo_commands.specs.Reply.{task, reply_to, inputs_of, outputs_of}
 use Rattle.cairo_commands.specs.Status.{IsDecided}
-use Rattle.cairo_commands.specs.Perform.{piece, OneOf, OneName, PassesLimit, TellsUnspelled, Evidence, Leaves, Replied, TellsFault}
+use Rattle.cairo_commands.specs.Perform.{piece, OneOf, OneName, PassesLimit, TellsUnspelled, Evidence, Leaves, Replied, TellsStoreFault}
 use Rattle.cairo_commands.specs.Parts.{ending_answer, IsStoreFault, IsMissing, BlamesFile, CarriesOut, Carries, Prints}
 
 -- ---- one of several
@@ -124,7 +124,7 @@ printed_memory status answer before now prints is = subst (λ s. Prints s answer
 -- ---- what a refusal blames, told by the line
 
 module _ (Tells : List ℕ → Type 0) (inputs : List Input) (outputs : List Name) (before after : Seen) where
-  tells_fault : (ending : Ending) → IfErr ending (BlamesFile inputs outputs before after) → (ending_answer ending).status ≡ status_of.Store → Tells (ending_answer ending).line → TellsFault Tells inputs outputs before after
+  tells_fault : (ending : Ending) → IfErr ending (BlamesFile inputs outputs before after) → (ending_answer ending).status ≡ status_of.Store → Tells (ending_answer ending).line → TellsStoreFault Tells inputs outputs before after
   tells_fault (Ok line) blames is tells = cc
   tells_fault (Err (Refused line)) blames is tells = cc
   tells_fault (Err Usage) blames is tells = cc

@@ -4,6 +4,7 @@ pub mod Refusals
 pub mod RunFiles
 pub mod ProgramReadings
 pub mod TableReadings
+pub mod HeldFiles
 pub mod WalkTheorem
 pub mod AsmTheorem
 pub mod DisTheorem

@@ -15,15 +15,15 @@ use Rattle.cairo_commands.specs.Request.{Request, Walk, Asm, Dis, Tables, Check}
 use Rattle.cairo_commands.specs.Reading.{◌>>=◌, Unread, TooMuch, Faulty, answered, within, spelled, read_as}
 use Rattle.cairo_commands.specs.Reply.{task, reply_to, outputs_of}
 use Rattle.cairo_commands.specs.Status.{IsDecided}
-use Rattle.cairo_commands.specs.RunFiles.{trace_input, trace_read, memory_input, cells_read}
-use Rattle.cairo_commands.specs.Programs.{text_input, text_read, program_input, program_read}
-use Rattle.cairo_commands.specs.TableInputs.{public_input, public_read, tables_input, tables_read}
+use Rattle.cairo_commands.specs.RunFiles.{trace_read, cells_read}
+use Rattle.cairo_commands.specs.Programs.{text_read, program_read}
+use Rattle.cairo_commands.specs.TableInputs.{public_read, tables_read}
 use Rattle.casm_word.specs.Run.{first_refused}
-use Rattle.cairo_commands.specs.Commands.Walk.{walked, walk_answer}
-use Rattle.cairo_commands.specs.Commands.Asm.{asm_answer}
-use Rattle.cairo_commands.specs.Commands.Dis.{dis_answer}
-use Rattle.cairo_commands.specs.Commands.Tables.{built_answer, tables_answer}
-use Rattle.cairo_commands.specs.Commands.Check.{checked, check_answer}
+use Rattle.cairo_commands.specs.Commands.Walk.{walk_trace, walk_memory, walked, walk_answer}
+use Rattle.cairo_commands.specs.Commands.Asm.{asm_text, asm_answer}
+use Rattle.cairo_commands.specs.Commands.Dis.{dis_program, dis_answer}
+use Rattle.cairo_commands.specs.Commands.Tables.{tables_program, tables_public, tables_trace, tables_memory, built_answer, tables_answer}
+use Rattle.cairo_commands.specs.Commands.Check.{check_program, check_public, check_tables, checked, check_answer}
 
 -- an answer that writes all of these names where it ends with `Done`, and else nothing
 pub record IsSettled (names : List Name) (answer : Answer) : Type 0 where
@@ -73,27 +73,27 @@ module _ (files : Files) where
   settled_walk : (trace memory : Name) → IsSettled [] (walk_answer trace memory files)
   unfolding walk_answer
   settled_walk trace memory =
-      settled_read [] (trace_input 1 trace) _ (λ states. settled_read [] (memory_input 2 memory) _ (λ cells. settled_walked states (first_refused (memory_of cells) states)) cells_read files) trace_read files
+      settled_read [] (walk_trace trace) _ (λ states. settled_read [] (walk_memory memory) _ (λ cells. settled_walked states (first_refused (memory_of cells) states)) cells_read files) trace_read files
 
   settled_asm : (text program : Name) → IsSettled (program ∷ []) (asm_answer text program files)
   unfolding asm_answer
   settled_asm text program =
-      settled_read (program ∷ []) (text_input 1 text) _ (λ a. record { decided = tt; nothing = λ other. absurd (other refl); all = λ e. refl }) text_read files
+      settled_read (program ∷ []) (asm_text text) _ (λ a. record { decided = tt; nothing = λ other. absurd (other refl); all = λ e. refl }) text_read files
 
   settled_dis : (program text : Name) → IsSettled (text ∷ []) (dis_answer program text files)
   unfolding dis_answer
   settled_dis program text =
-      settled_read (text ∷ []) (program_input 1 program) _ (λ p. record { decided = tt; nothing = λ other. absurd (other refl); all = λ e. refl }) program_read files
+      settled_read (text ∷ []) (dis_program program) _ (λ p. record { decided = tt; nothing = λ other. absurd (other refl); all = λ e. refl }) program_read files
 
   settled_check : (program public tables : Name) → IsSettled [] (check_answer program public tables files)
   unfolding check_answer
   settled_check program public tables =
-      settled_read [] (program_input 1 program) _ (λ p. settled_read [] (public_input 2 public) _ (λ u. settled_read [] (tables_input 3 tables) _ (λ t. settled_checked (length t.rows) (verdict p u t)) tables_read files) public_read files) program_read files
+      settled_read [] (check_program program) _ (λ p. settled_read [] (check_public public) _ (λ u. settled_read [] (check_tables tables) _ (λ t. settled_checked (length t.rows) (verdict p u t)) tables_read files) public_read files) program_read files
 
   pub settled_tables : (program public trace memory tables : Name) → IsSettled (tables ∷ []) (tables_answer program public trace memory tables files)
   unfolding tables_answer
   settled_tables program public trace memory tables =
-      settled_read (tables ∷ []) (program_input 1 program) _ (λ p. settled_read (tables ∷ []) (public_input 2 public) _ (λ u. settled_read (tables ∷ []) (trace_input 3 trace) _ (λ states. settled_read (tables ∷ []) (memory_input 4 memory) _ (λ cells. settled_built tables (building p u (memory_of cells) states)) cells_read files) trace_read files) public_read files) program_read files
+      settled_read (tables ∷ []) (tables_program program) _ (λ p. settled_read (tables ∷ []) (tables_public public) _ (λ u. settled_read (tables ∷ []) (tables_trace trace) _ (λ states. settled_read (tables ∷ []) (tables_memory memory) _ (λ cells. settled_built tables (building p u (memory_of cells) states)) cells_read files) trace_read files) public_read files) program_read files
 
   settled_task : (request : Request) → IsSettled (task request).outputs ((task request).answer files)
   unfolding task

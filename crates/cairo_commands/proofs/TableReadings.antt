@@ -5,11 +5,12 @@ use Rattle.std.specs.Int.{byte_at, bytes_low_first}
 use Rattle.std.proofs.Math.Nat.{mod-lt}
 use Rattle.std.proofs.lemmas.Bool.{ltb-true, lt-ltb, and_parts, and_from, cases_lt}
 use Rattle.std.proofs.lemmas.List.Folds.{list_all-append}
+use Rattle.goldilocks.specs.FileNumbers.{number_bytes}
 use Rattle.table_file.specs.declared.TableFault.{TableFault}
 use Rattle.table_file.specs.declared.TableFault.TheVariants.{TooMany, Length, Memory}
-use Rattle.table_file.specs.FileNumbers.{number_bytes, numbers_bytes}
+use Rattle.table_file.specs.FileNumbers.{numbers_bytes}
 use Rattle.table_file.specs.Tables.{Contents}
-use Rattle.table_file.specs.Spelling.{Spells, magic, counts, all_values, spelling}
+use Rattle.table_file.specs.Spelling.{SpellsTables, magic, counts, all_values, spelling}
 use Rattle.table_file.specs.Faults.{count_limits, count_place, count_in, file_end, HasFault}
 use Rattle.table_file.specs.Reading.{reading}
 use Rattle.table_file.proofs.FirstFaults.{file_end_least}
@@ -64,15 +65,15 @@ pub tables_read-bytes : (bytes : List ℕ) (r : Result Contents TableFault) → 
 unfolding tables_read
 tables_read-bytes bytes r test is = rw test (ap (told tables_unread) is)
 
-pub tables_read-spelled : (bytes : List ℕ) (t : Contents) → Spells bytes t → tables_read bytes ≡ Ok t
+pub tables_read-spelled : (bytes : List ℕ) (t : Contents) → SpellsTables bytes t → tables_read bytes ≡ Ok t
 tables_read-spelled bytes t spells =
     tables_read-bytes bytes (Ok t) (ap are_bytes spells.parts ∙ bytes_of_spelling t) (reading-spells bytes t spells)
 
-pub Spells-from_read : (bytes : List ℕ) (t : Contents) → tables_read bytes ≡ Ok t → Spells bytes t
+pub SpellsTables-from_read : (bytes : List ℕ) (t : Contents) → tables_read bytes ≡ Ok t → SpellsTables bytes t
 unfolding tables_read
-Spells-from_read bytes t read = by_test (are_bytes bytes) refl read
+SpellsTables-from_read bytes t read = by_test (are_bytes bytes) refl read
   where
-    by_test : (b : Bool) → are_bytes bytes ≡ b → cond b (told tables_unread (reading bytes)) (Err (Faulty (codes "no bytes"))) ≡ Ok t → Spells bytes t
+    by_test : (b : Bool) → are_bytes bytes ≡ b → cond b (told tables_unread (reading bytes)) (Err (Faulty (codes "no bytes"))) ≡ Ok t → SpellsTables bytes t
     by_test true test e = spells-reading bytes t (bytes_of_test bytes test) (told_ok tables_unread (reading bytes) t e)
     by_test false test e = cc
 
@@ -85,7 +86,7 @@ tables_refused bytes fault position refusal test (inr is) says wants =
 
 -- ---- how long a tables file is
 
-module _ (bytes : List ℕ) (t : Contents) (spells : Spells bytes t) where
+module _ (bytes : List ℕ) (t : Contents) (spells : SpellsTables bytes t) where
   right_end : length bytes ≡ file_end bytes
   unfolding HasFault
   right_end =

@@ -1,5 +1,5 @@
 -- What the endings of `tables` mean.
-use Rattle.std.proofs.Common.{◌≡◌, ℕ, ◌<◌, ◌==◌, Bool, true, false, cond, not, ◌&&◌, option_map, List, [], ◌∷◌, Some, Result, Ok, Err, All, refl, sym, ap, ◌∙◌, arith, subst}
+use Rattle.std.proofs.Common.{◌≡◌, ℕ, ◌<◌, ◌==◌, Bool, true, false, cond, not, ◌&&◌, option_map, List, [], ◌∷◌, Some, Result, Ok, Err, refl, sym, ap, ◌∙◌, subst}
 use Rattle.std.specs.FinMap.{insert}
 use Rattle.std.specs.Io.KnownBytes.{Appends}
 use Rattle.std.specs.List.{AllByRecursion, find}
@@ -12,16 +12,10 @@ use Rattle.goldilocks.specs.Field.{prime}
 use Rattle.casm_word.specs.Transition.{Registers}
 use Rattle.trace_files.specs.TraceFile.{IsState}
 use Rattle.trace_files.specs.MemoryFile.{Cell, IsCell, memory_of}
-use Rattle.trace_files.proofs.TraceFile.{length-spelled_trace}
-use Rattle.trace_files.proofs.MemoryFile.{length-spelled_memory}
 use Rattle.program_file.specs.Listing.{Listing}
-use Rattle.program_file.specs.Reading.{reading as program_reading}
-use Rattle.program_file.proofs.Spelling.{reading-Spells, Spells-reading}
 use Rattle.public_input.specs.Statement.{Statement}
-use Rattle.public_input.specs.Reading.{reading as public_reading}
-use Rattle.public_input.proofs.Spellings.{SpellsPublic-from_reading, reading-spelled}
 use Rattle.table_file.specs.Tables.{Contents}
-use Rattle.table_file.specs.Spelling.{spelling, Spells}
+use Rattle.table_file.specs.Spelling.{spelling, SpellsTables}
 use Rattle.table_builder.specs.Findings.{Finding, first_found, findings}
 use Rattle.table_builder.specs.Building.{building}
 use Rattle.table_builder.specs.Columns.{tables_of}
@@ -33,15 +27,15 @@ use Rattle.cairo_commands.specs.declared.status.Status.{Status}
 use Rattle.cairo_commands.specs.declared.status.Status.TheVariants.{Done, Refused}
 use Rattle.cairo_commands.specs.Answer.{Answer, says, written}
 use Rattle.cairo_commands.specs.Request.{is_among, stand_apart, are_names}
-use Rattle.cairo_commands.specs.Reading.{◌>>=◌, told, read_as}
+use Rattle.cairo_commands.specs.Reading.{◌>>=◌, read_as}
 use Rattle.cairo_commands.specs.Perform.{Replied}
-use Rattle.cairo_commands.specs.Programs.{program_unread, program_read, program_input}
-use Rattle.cairo_commands.specs.TableInputs.{public_unread, public_read, public_input}
-use Rattle.cairo_commands.specs.RunFiles.{trace_input, trace_read, memory_input, cells_read}
+use Rattle.cairo_commands.specs.Programs.{program_read}
+use Rattle.cairo_commands.specs.TableInputs.{public_read}
+use Rattle.cairo_commands.specs.RunFiles.{trace_read, cells_read}
 use Rattle.cairo_commands.specs.Commands.Check.{MeetsConstraints}
-use Rattle.cairo_commands.specs.Commands.Tables.{built_answer, tables_answer, refused_line, HoldsRun, BuildsTables, RefusesTables, TablesMeans}
-use Rattle.cairo_commands.proofs.Readings.{IsOwn, Done_is_own, Refused_is_own, IsRead, read_ended, then_read, told_ok}
-use Rattle.cairo_commands.proofs.RunFiles.{trace_read-spelled, SpellsTrace-from_read, cells_read-spelled, SpellsMemory-from_read}
+use Rattle.cairo_commands.specs.Commands.Tables.{tables_program, tables_public, tables_trace, tables_memory, built_answer, tables_answer, refused_line, HoldsRun, BuildsTables, RefusesTables, TablesMeans}
+use Rattle.cairo_commands.proofs.Readings.{IsOwn, Done_is_own, Refused_is_own, read_ended, then_read}
+use Rattle.cairo_commands.proofs.HeldFiles.{program_is_read, HoldsProgram-from_read, public_is_read, HoldsPublic-from_read, trace_is_read, HoldsTrace-from_read, memory_is_read, HoldsMemory-from_read}
 use Rattle.cairo_commands.proofs.TableReadings.{length-spelled_tables}
 use Rattle.cairo_commands.proofs.WrittenFiles.{held_last, held_apart}
 use Rattle.cairo_commands.proofs.ReplyLaws.{settled_tables}
@@ -59,12 +53,6 @@ value_low (c ∷ cells) all a v found = by_address (c.addr == a) found (value_lo
         let same : c.value ≡ v = cc in
         subst (λ n. n < prime) same all.0.value
     by_address false here behind = behind here
-
--- the registers of a trace are numbers of the field
-registers_low : (states : List Registers) → AllByRecursion IsState states → All (λ (s : Registers). (s.pc < prime) × (s.ap < prime) × (s.fp < prime)) states
-registers_low states all = λ i d inside.
-    let state = All-from_recursion IsState states all i d inside in
-    (state.pc, state.ap, state.fp)
 
 -- the tables have neither the program's name nor that of the public input
 apart_names : (program public trace memory tables : Name) → are_names (program ∷ public ∷ trace ∷ memory ∷ []) (tables ∷ []) ≡ true → (bytes_eq program tables ≡ false) × (bytes_eq public tables ≡ false)
@@ -91,91 +79,45 @@ of_values tables p u states cells = built_answer tables (building p u (memory_of
 
 module _ (program public trace memory tables : Name) (files : Files) where
   -- all four files are read where an ending of its own is answered
-  reads_all : (status : Status) → IsOwn status → (tables_answer program public trace memory tables files).status ≡ status → (held : HoldsRun program public trace memory files) × ((of_values tables held.listed held.stated held.states held.cells).status ≡ status)
+  reads_all : (status : Status) → IsOwn status → (tables_answer program public trace memory tables files).status ≡ status → (held : HoldsRun program public trace memory files) × ((of_values tables held.program.listed held.public.stated held.trace.states held.memory.cells).status ≡ status)
   unfolding tables_answer of_values
   reads_all status own ended =
-      let p = read_ended status own (program_input 1 program) _ files program_read ended in
-      let u = read_ended status own (public_input 2 public) _ files public_read p.2 in
-      let s = read_ended status own (trace_input 3 trace) _ files trace_read u.2 in
-      let c = read_ended status own (memory_input 4 memory) _ files cells_read s.2 in (
+      let p = read_ended status own (tables_program program) _ files program_read ended in
+      let u = read_ended status own (tables_public public) _ files public_read p.2 in
+      let s = read_ended status own (tables_trace trace) _ files trace_read u.2 in
+      let c = read_ended status own (tables_memory memory) _ files cells_read s.2 in (
         record {
-          program_bytes = p.1.bytes;
-          program_held = p.1.held;
-          program_short = p.1.short;
-          listed = p.0;
-          program_spelled = Spells-reading p.1.bytes p.0 (told_ok program_unread (program_reading p.1.bytes) p.0 p.1.read);
-          public_bytes = u.1.bytes;
-          public_held = u.1.held;
-          public_short = u.1.short;
-          stated = u.0;
-          public_spelled = SpellsPublic-from_reading u.1.bytes u.0 (told_ok public_unread (public_reading u.1.bytes) u.0 u.1.read);
-          trace_bytes = s.1.bytes;
-          trace_held = s.1.held;
-          states = s.0;
-          states_spelled = SpellsTrace-from_read s.1.bytes s.0 s.1.read;
-          memory_bytes = c.1.bytes;
-          memory_held = c.1.held;
-          cells = c.0;
-          cells_spelled = SpellsMemory-from_read c.1.bytes c.0 c.1.read;
+          program = HoldsProgram-from_read _ program files p.0 p.1;
+          public = HoldsPublic-from_read _ public files u.0 u.1;
+          trace = HoldsTrace-from_read _ trace files s.0 s.1;
+          memory = HoldsMemory-from_read _ memory files c.0 c.1;
         },
         c.2,
       )
 
   module _ (held : HoldsRun program public trace memory files) where
-    program_is_read : IsRead program_read (program_input 1 program) files held.listed
-    program_is_read = record {
-      bytes = held.program_bytes;
-      held = held.program_held;
-      short = held.program_short;
-      read = ap (told program_unread) (reading-Spells held.program_bytes held.listed held.program_spelled);
-    }
-
-    public_is_read : IsRead public_read (public_input 2 public) files held.stated
-    public_is_read = record {
-      bytes = held.public_bytes;
-      held = held.public_held;
-      short = held.public_short;
-      read = ap (told public_unread) (reading-spelled held.public_bytes held.stated held.public_spelled);
-    }
-
-    trace_is_read : IsRead trace_read (trace_input 3 trace) files held.states
-    trace_is_read = record {
-      bytes = held.trace_bytes;
-      held = held.trace_held;
-      short = omega (arith, length-spelled_trace held.trace_bytes held.states held.states_spelled, held.states_spelled.most);
-      read = trace_read-spelled held.trace_bytes held.states held.states_spelled;
-    }
-
-    memory_is_read : IsRead cells_read (memory_input 4 memory) files held.cells
-    memory_is_read = record {
-      bytes = held.memory_bytes;
-      held = held.memory_held;
-      short = omega (arith, length-spelled_memory held.memory_bytes held.cells held.cells_spelled, held.cells_spelled.most);
-      read = cells_read-spelled held.memory_bytes held.cells held.cells_spelled;
-    }
-
     -- what is answered where all four files are read
-    tables_answer-read : tables_answer program public trace memory tables files ≡ of_values tables held.listed held.stated held.states held.cells
+    tables_answer-read : tables_answer program public trace memory tables files ≡ of_values tables held.program.listed held.public.stated held.trace.states held.memory.cells
     unfolding tables_answer of_values
     tables_answer-read =
-        then_read program_read (program_input 1 program) files held.listed program_is_read (λ p. read_as public_read (public_input 2 public) files >>= λ u. read_as trace_read (trace_input 3 trace) files >>= λ states. read_as cells_read (memory_input 4 memory) files >>= λ cells. Ok (of_values tables p u states cells))
-        ∙ (then_read public_read (public_input 2 public) files held.stated public_is_read (λ u. read_as trace_read (trace_input 3 trace) files >>= λ states. read_as cells_read (memory_input 4 memory) files >>= λ cells. Ok (of_values tables held.listed u states cells))
-        ∙ (then_read trace_read (trace_input 3 trace) files held.states trace_is_read (λ states. read_as cells_read (memory_input 4 memory) files >>= λ cells. Ok (of_values tables held.listed held.stated states cells))
-        ∙ then_read cells_read (memory_input 4 memory) files held.cells memory_is_read (λ cells. Ok (of_values tables held.listed held.stated held.states cells))))
+        then_read program_read (tables_program program) files held.program.listed (program_is_read _ program files held.program) (λ p. read_as public_read (tables_public public) files >>= λ u. read_as trace_read (tables_trace trace) files >>= λ states. read_as cells_read (tables_memory memory) files >>= λ cells. Ok (of_values tables p u states cells))
+        ∙ (then_read public_read (tables_public public) files held.public.stated (public_is_read _ public files held.public) (λ u. read_as trace_read (tables_trace trace) files >>= λ states. read_as cells_read (tables_memory memory) files >>= λ cells. Ok (of_values tables held.program.listed u states cells))
+        ∙ (then_read trace_read (tables_trace trace) files held.trace.states (trace_is_read _ trace files held.trace) (λ states. read_as cells_read (tables_memory memory) files >>= λ cells. Ok (of_values tables held.program.listed held.public.stated states cells))
+        ∙ then_read cells_read (tables_memory memory) files held.memory.cells (memory_is_read _ memory files held.memory) (λ cells. Ok (of_values tables held.program.listed held.public.stated held.trace.states cells))))
 
-    module _ (columns : Contents) (built : building held.listed held.stated (memory_of held.cells) held.states ≡ Ok columns) where
+    module _ (columns : Contents) (built : building held.program.listed held.public.stated (memory_of held.memory.cells) held.trace.states ≡ Ok columns) where
       -- the bytes that are written spell the tables that are built
-      written_spells : Spells (spelling columns) columns
+      written_spells : SpellsTables (spelling columns) columns
       written_spells =
-          let m = memory_of held.cells in
-          let values = value_low held.cells held.cells_spelled.numbers in
-          let low = registers_low held.states held.states_spelled.numbers in
-          let is_program = held.program_spelled.program in
-          let limits = held.public_spelled.limits in
+          let m = memory_of held.memory.cells in
+          let values = value_low held.memory.cells held.memory.spelled.numbers in
+          let low = All-from_recursion IsState held.trace.states held.trace.spelled.numbers in
+          let is_program = held.program.spelled.program in
+          let limits = held.public.spelled.limits in
           record {
             parts = refl;
-            valid = built_valid held.listed held.stated m held.states values low is_program limits held.states_spelled.least columns built;
-            sixteen = built_sixteen held.listed held.stated m held.states values low is_program limits held.states_spelled.least columns built;
+            valid = built_valid held.program.listed held.public.stated m held.trace.states values low is_program limits held.trace.spelled.least columns built;
+            sixteen = built_sixteen held.program.listed held.public.stated m held.trace.states values low is_program limits held.trace.spelled.least columns built;
           }
 
       -- with the program and the public input these meet every constraint, in the files that are left
@@ -184,37 +126,43 @@ module _ (program public trace memory tables : Name) (files : Files) where
           let apart = apart_names program public trace memory tables kept in
           record {
             held = record {
-              program_bytes = held.program_bytes;
-              program_held = held_apart files tables program (spelling columns) apart.0 ∙ held.program_held;
-              program_short = held.program_short;
-              listed = held.listed;
-              program_spelled = held.program_spelled;
-              public_bytes = held.public_bytes;
-              public_held = held_apart files tables public (spelling columns) apart.1 ∙ held.public_held;
-              public_short = held.public_short;
-              stated = held.stated;
-              public_spelled = held.public_spelled;
-              tables_bytes = spelling columns;
-              tables_held = held_last files tables (spelling columns);
-              tables_short = length-spelled_tables (spelling columns) columns written_spells;
-              columns = columns;
-              tables_spelled = written_spells;
+              program = record {
+                bytes = held.program.bytes;
+                held = held_apart files tables program (spelling columns) apart.0 ∙ held.program.held;
+                short = held.program.short;
+                listed = held.program.listed;
+                spelled = held.program.spelled;
+              };
+              public = record {
+                bytes = held.public.bytes;
+                held = held_apart files tables public (spelling columns) apart.1 ∙ held.public.held;
+                short = held.public.short;
+                stated = held.public.stated;
+                spelled = held.public.spelled;
+              };
+              tables = record {
+                bytes = spelling columns;
+                held = held_last files tables (spelling columns);
+                short = length-spelled_tables (spelling columns) columns written_spells;
+                columns = columns;
+                spelled = written_spells;
+              };
             };
-            meets = built_meets held.listed held.stated (memory_of held.cells) held.states (value_low held.cells held.cells_spelled.numbers) (registers_low held.states held.states_spelled.numbers) held.program_spelled.program held.public_spelled.limits held.states_spelled.least columns built;
+            meets = built_meets held.program.listed held.public.stated (memory_of held.memory.cells) held.trace.states (value_low held.memory.cells held.memory.spelled.numbers) (All-from_recursion IsState held.trace.states held.trace.spelled.numbers) held.program.spelled.program held.public.spelled.limits held.trace.spelled.least columns built;
           }
 
   -- the tables of the run are what is built
-  is_built : (run : BuildsTables program public trace memory files) → building run.held.listed run.held.stated (memory_of run.held.cells) run.held.states ≡ Ok run.columns
+  is_built : (run : BuildsTables program public trace memory files) → building run.held.program.listed run.held.public.stated (memory_of run.held.memory.cells) run.held.trace.states ≡ Ok run.columns
   is_built run =
-      only_built run.held.listed run.held.stated (memory_of run.held.cells) run.held.states
-      (value_low run.held.cells run.held.cells_spelled.numbers) (registers_low run.held.states run.held.states_spelled.numbers) run.columns run.of_run
+      only_built run.held.program.listed run.held.public.stated (memory_of run.held.memory.cells) run.held.trace.states
+      (value_low run.held.memory.cells run.held.memory.spelled.numbers) (All-from_recursion IsState run.held.trace.states run.held.trace.spelled.numbers) run.columns run.of_run
 
-  is_refused : (run : RefusesTables program public trace memory files) → building run.held.listed run.held.stated (memory_of run.held.cells) run.held.states ≡ Err run.found
+  is_refused : (run : RefusesTables program public trace memory files) → building run.held.program.listed run.held.public.stated (memory_of run.held.memory.cells) run.held.trace.states ≡ Err run.found
   unfolding building
   is_refused run =
-      building-found (first_found (findings run.held.listed run.held.stated (memory_of run.held.cells) run.held.states))
-      (tables_of run.held.listed run.held.stated (memory_of run.held.cells) run.held.states) run.found
-      (FoundFirst-found (findings run.held.listed run.held.stated (memory_of run.held.cells) run.held.states) run.found run.first)
+      building-found (first_found (findings run.held.program.listed run.held.public.stated (memory_of run.held.memory.cells) run.held.trace.states))
+      (tables_of run.held.program.listed run.held.public.stated (memory_of run.held.memory.cells) run.held.trace.states) run.found
+      (FoundFirst-found (findings run.held.program.listed run.held.public.stated (memory_of run.held.memory.cells) run.held.trace.states) run.found run.first)
 
   tables_answer-built : (run : BuildsTables program public trace memory files) → tables_answer program public trace memory tables files ≡ built_answer tables (Ok run.columns)
   unfolding of_values
@@ -228,27 +176,27 @@ module _ (program public trace memory tables : Name) (files : Files) where
   unfolding of_values
   BuildsTables-from_done done =
       let all = reads_all Done Done_is_own done in
-      let built = built_done tables (building all.0.listed all.0.stated (memory_of all.0.cells) all.0.states) all.1 in
+      let built = built_done tables (building all.0.program.listed all.0.public.stated (memory_of all.0.memory.cells) all.0.trace.states) all.1 in
       record {
         held = all.0;
         columns = built.0;
         of_run =
-            built_tables all.0.listed all.0.stated (memory_of all.0.cells) all.0.states
-            (value_low all.0.cells all.0.cells_spelled.numbers) (registers_low all.0.states all.0.states_spelled.numbers) all.0.public_spelled.limits built.0 built.1;
+            built_tables all.0.program.listed all.0.public.stated (memory_of all.0.memory.cells) all.0.trace.states
+            (value_low all.0.memory.cells all.0.memory.spelled.numbers) (All-from_recursion IsState all.0.trace.states all.0.trace.spelled.numbers) all.0.public.spelled.limits built.0 built.1;
       }
 
   RefusesTables-from_refused : (tables_answer program public trace memory tables files).status ≡ Refused → RefusesTables program public trace memory files
   unfolding of_values building
   RefusesTables-from_refused ended =
       let all = reads_all Refused Refused_is_own ended in
-      let found = built_refused tables (building all.0.listed all.0.stated (memory_of all.0.cells) all.0.states) all.1 in
+      let found = built_refused tables (building all.0.program.listed all.0.public.stated (memory_of all.0.memory.cells) all.0.trace.states) all.1 in
       record {
         held = all.0;
         found = found.0;
         first =
-            FoundFirst-from (findings all.0.listed all.0.stated (memory_of all.0.cells) all.0.states) found.0
-            (building-err (first_found (findings all.0.listed all.0.stated (memory_of all.0.cells) all.0.states))
-            (tables_of all.0.listed all.0.stated (memory_of all.0.cells) all.0.states) found.0 found.1);
+            FoundFirst-from (findings all.0.program.listed all.0.public.stated (memory_of all.0.memory.cells) all.0.trace.states) found.0
+            (building-err (first_found (findings all.0.program.listed all.0.public.stated (memory_of all.0.memory.cells) all.0.trace.states))
+            (tables_of all.0.program.listed all.0.public.stated (memory_of all.0.memory.cells) all.0.trace.states) found.0 found.1);
       }
 
   -- the reply means what is said of `tables`

@@ -14,16 +14,15 @@ pub record Answer : Type 0 where
   pub line : List ℕ
 
 -- A file that a command reads: its position among the words, its name, and the most bytes that it may have. The
--- command has position 0. It is counted where its bytes may keep within that limit, and what they spell have more
--- entries than it may have. Own.
+-- command has position 0. `may_have_too_many` says whether it may have too many entries within its limit. Own.
 pub record Input : Type 0 where
   pub position : ℕ
   pub name : Name
   pub limit : ℕ
-  pub counted : Bool
+  pub may_have_too_many : Bool
 
--- What a command is asked to do: the files that it reads and the names of those that it writes, both in their
--- order, and what it answers to the files. Own.
+-- What a command is asked to do. It has the files to read and the names of those to write, both in their order, and
+-- what is answered to the files. Own.
 pub record Task : Type 0 where
   pub inputs : List Input
   pub outputs : List Name

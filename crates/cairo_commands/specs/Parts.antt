@@ -35,7 +35,7 @@ request (CheckCommand program public tables) = Check program.now public.now tabl
 
 -- An input of the code. Own.
 abbrev pub input_of : CodeInput → Input
-input_of input = record { position = input.position; name = input.name.now; limit = input.limit; counted = input.counted }
+input_of input = record { position = input.position; name = input.name.now; limit = input.limit; may_have_too_many = input.may_have_too_many }
 
 -- The outputs of the code. Own.
 abbrev pub outputs_in : List Output → List (Name × List ℕ)

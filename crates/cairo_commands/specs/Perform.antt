@@ -40,7 +40,7 @@ GaveMore limit before now = min (before + limit + 1) last_count ≤ now
 -- The input is over its limit: more bytes than that were given between the two counts, unless it is one that may have
 -- too many entries within its limit. Own.
 abbrev pub PassesLimit : Input → ℕ → ℕ → Type 0
-PassesLimit input before now = (input.counted ≡ true) ⊎ GaveMore input.limit before now
+PassesLimit input before now = (input.may_have_too_many ≡ true) ⊎ GaveMore input.limit before now
 
 -- The line tells of the input at this position that it spells nothing, and of some fault. Own.
 abbrev pub TellsUnspelled : (List ℕ → Type 0) → ℕ → Type 0
@@ -58,8 +58,8 @@ OneName P [] = ⊥
 OneName P (name ∷ more) = P name ⊎ OneName P more
 
 -- The fault of the store is told by the name of an input, or by the name of an output where a replace failed. Own.
-abbrev pub TellsFault : (List ℕ → Type 0) → List Input → List Name → Seen → Seen → Type 0
-TellsFault Tells inputs outputs before after =
+abbrev pub TellsStoreFault : (List ℕ → Type 0) → List Input → List Name → Seen → Seen → Type 0
+TellsStoreFault Tells inputs outputs before after =
     OneOf (λ input most. Tells (store_fault_line input.name)) 0 inputs
     ⊎ (Rose before.torn after.torn × OneName (λ name. Tells (store_fault_line name)) outputs)
 
@@ -69,7 +69,7 @@ pub record Evidence (inputs : List Input) (outputs : List Name) (before after : 
   pub store_fault : status ≡ Store → Rose before.faults after.faults
   pub no_store_fault : IsDecided status → after.faults ≡ before.faults
   pub no_torn_file : IsDecided status → after.torn ≡ before.torn
-  pub store_line : status ≡ Store → TellsFault (Appends sink_before.written sink_after.written) inputs outputs before after
+  pub store_line : status ≡ Store → TellsStoreFault (Appends sink_before.written sink_after.written) inputs outputs before after
   -- a fault of the sink is counted exactly there
   pub sink_faults : Counts sink_before.faults sink_after.faults (status ≡ Sink)
   -- a name is missing only where one was counted; where another ending is decided, none was counted
@@ -115,4 +115,4 @@ pub record Leaves (answer : Answer) (files : Files) (inputs : List Input) (outpu
   pub sink_files : status ≡ Sink → Rose before.faults after.faults ⊎ (after.files ≡ Some (written answer.writes files))
   pub sink_line : status ≡ Sink →
       AppendsPrefix sink_before.written sink_after.written answer.line
-      ⊎ (Rose before.faults after.faults × TellsFault (AppendsPrefix sink_before.written sink_after.written) inputs outputs before after)
+      ⊎ (Rose before.faults after.faults × TellsStoreFault (AppendsPrefix sink_before.written sink_after.written) inputs outputs before after)

@@ -1,11 +1,12 @@
 -- Assembly texts and program files, as inputs and as outputs. Own.
-use Rattle.std.specs.Prelude.{ℕ, ◌^◌, ◌++◌, List, true, Result}
-use Rattle.file_port.specs.Files.{Name}
+use Rattle.std.specs.Prelude.{◌≡◌, ◌≤◌, ℕ, ◌++◌, List, length, true, Some, Result}
+use Rattle.file_port.specs.Files.{Name, Files, file_at}
 use Rattle.casm_statements.specs.declared.Item.{Item}
 use Rattle.casm_tokens.specs.Lines.{Fault}
 use Rattle.casm_tokens.specs.declared.fault.ParseFault.{ParseFault}
 use Rattle.casm_tokens.specs.declared.fault.ParseFault.TheVariants.{Syntax, Memory as NoMemory}
 use Rattle.casm_tokens.specs.FaultText.{syntax_text, parse_fault_text}
+use Rattle.casm_tokens.specs.Limits.{most_bytes}
 use Rattle.casm_text.specs.TextReading.{text_reading}
 use Rattle.assembler.specs.declared.fault.AsmFault.{AsmFault}
 use Rattle.assembler.specs.declared.fault.AsmFault.TheVariants.{Duplicate, TooLong, Unknown, NoEnd, StartOutside, EndOutside, Memory}
@@ -17,19 +18,20 @@ use Rattle.program_file.specs.declared.faults.ProgramFault.{ProgramFault}
 use Rattle.program_file.specs.declared.faults.ProgramFault.TheVariants as program_fault
 use Rattle.program_file.specs.Shown.{fault_text}
 use Rattle.program_file.specs.Listing.{Listing}
+use Rattle.program_file.specs.Format.{SpellsProgram}
 use Rattle.program_file.specs.Reading.{reading}
 use Rattle.cairo_commands.specs.Answer.{Input}
 use Rattle.cairo_commands.specs.Reading.{◌>>=◌, Unread, TooMuch, Faulty, told}
 
 -- The most bytes that an assembly text or a program file may have. Own.
 abbrev pub text_limit : ℕ
-text_limit = 2 ^ 24
+text_limit = most_bytes
 
 -- ---- assembly texts
 
 -- An assembly text as the input at a position. Own.
 abbrev pub text_input : ℕ → Name → Input
-text_input position name = record { position = position; name = name; limit = text_limit; counted = true }
+text_input position name = record { position = position; name = name; limit = text_limit; may_have_too_many = true }
 
 -- Why a text has no items. Own.
 abbrev pub syntax_unread : Fault → Unread
@@ -66,7 +68,7 @@ text_read bytes = items_read bytes >>= assembly_read
 
 -- A program file as the input at a position. Own.
 abbrev pub program_input : ℕ → Name → Input
-program_input position name = record { position = position; name = name; limit = text_limit; counted = true }
+program_input position name = record { position = position; name = name; limit = text_limit; may_have_too_many = true }
 
 -- Why bytes are no program file. Own.
 abbrev pub program_unread : ProgramFault → Unread
@@ -83,6 +85,14 @@ program_unread program_fault.Memory = Faulty (fault_text program_fault.Memory)
 abbrev pub program_read : List ℕ → Result Listing Unread
 program_read bytes = told program_unread (reading bytes)
 
+-- The files have a file of this name, within the limit of a program file, and its bytes spell a program. Own.
+pub record HoldsProgram (name : Name) (files : Files) : Type 0 where
+  pub bytes : List ℕ
+  pub held : file_at files name ≡ Some bytes
+  pub short : length bytes ≤ text_limit
+  pub listed : Listing
+  pub spelled : SpellsProgram bytes listed
+
 -- ---- one as the other
 
 -- An assembled text as a program; its labels are left out. Own.
@@ -90,6 +100,7 @@ abbrev pub listing_of : Assembly → Listing
 listing_of a = record { words = a.words; start = a.start; end = a.end; builtins = record { output = a.output; range = a.range } }
 
 -- The items that a program is shown as, on lines of their own: its directives, and the bodies that its words are shown
--- as. There is exactly one such list, which is a law (`again_laws`). Own.
+-- as. The list is taken from the proof that there is one (`shown_as_some`), which needn't be read. There is exactly one
+-- such list, and `one_list` of `again_laws` says which it is. Own.
 unfoldable pub items_of : Listing → List Item
 items_of p = on_lines 1 (directives p.start p.end p.builtins.output p.builtins.range ++ (shown_as_some p.words).0)

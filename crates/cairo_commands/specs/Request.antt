@@ -53,7 +53,7 @@ told_workers words names (option ∷ number ∷ []) =
     else Some (words, 1)
 told_workers words names _ = Some (words, 1)
 
--- The names of a command and its number of workers: where the word before the last is `--workers`, the last has to be
--- that number, and both are no names; else it is 1. Own.
+-- The names of a command and its number of workers. Where the word before the last is `--workers`, the last has to be
+-- that number, and both are no names. Else it is 1. Own.
 unfoldable pub split_workers : List Name → Option (List Name × ℕ)
 split_workers words = told_workers words (take (length words - 2) words) (drop (length words - 2) words)

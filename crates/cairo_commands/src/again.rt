@@ -8,9 +8,9 @@ ghost use Rattle.assembler.specs.Disassembly.{Disassembles};
 ghost use Rattle.program_file.specs.Listing.{Listing};
 ghost use Rattle.program_file.specs.Format.{written as program_bytes};
 ghost use Rattle.cairo_commands.specs.Answer.{written};
-ghost use Rattle.cairo_commands.specs.Programs.{listing_of, items_of};
+ghost use Rattle.cairo_commands.specs.Programs.{HoldsProgram, listing_of, items_of};
 ghost use Rattle.cairo_commands.specs.Commands.Asm.{Assembles, asm_answer, asm_line};
-ghost use Rattle.cairo_commands.specs.Commands.Dis.{HoldsProgram, dis_answer, text_answer};
+ghost use Rattle.cairo_commands.specs.Commands.Dis.{dis_answer, text_answer};
 
 use crate::Status;
 

@@ -22,7 +22,7 @@ pub(crate) struct Input<'w> {
     /// The most bytes that it may have.
     pub(crate) limit: usize,
     /// Whether it may have too many entries within this limit.
-    pub(crate) counted: bool,
+    pub(crate) may_have_too_many: bool,
 }
 
 /// The bytes of an input. A missing name, more bytes than the limit, a fault of the store and want of memory are its

@@ -59,7 +59,7 @@ pub fn perform<S: Store, K: Sink>(
     sink: &mut K,
 ) -> Status
     // Where the store tells its files, status, files and line are those of the reply. In every store and sink, where no
-    // fault was counted and memory was there, no other status stands in its place: so files that meet what an ending
+    // fault was counted and memory was there, no other status stands in its place. So files that meet what an ending
     // means get that ending.
     ensures replies { IfSome (S.seen store.old).files (λ files. IsDecided result →
         Replied (reply words.now files) files result (S.seen store.new) (K.seen sink.old) (K.seen sink.new)) }

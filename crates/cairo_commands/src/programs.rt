@@ -1,6 +1,6 @@
 //! Assembly texts and program files as inputs, and each as the other.
 
-ghost use Rattle.std.specs.Prelude.{◌≡◌, ◌∷◌, ◌≤◌, ◌^◌, [], IfSome, IfOk, length};
+ghost use Rattle.std.specs.Prelude.{◌≡◌, ◌∷◌, ◌≤◌, [], IfSome, IfOk, length};
 ghost use Rattle.casm_text.specs.Canonical.{printed};
 ghost use Rattle.assembler.specs.Assembling.{seen_assembly};
 ghost use Rattle.program_file.specs.Shown.{fault_text};
@@ -14,12 +14,13 @@ use crate::ending::Refusal;
 use crate::inputs::{Input, read_input};
 use assembler::{AsmFault, Assembled, assemble, disassemble};
 use casm_text::{Item, ParseFault, parse, print};
+use casm_tokens::MOST_BYTES;
 use file_port::Store;
 use program_file::{Builtins, Program, ProgramFault};
 use std::alloc::{AllocError, Global};
 
 /// The most bytes that an assembly text or a program file may have.
-const LIMIT: usize = 16777216;
+const LIMIT: usize = MOST_BYTES;
 
 /// What an assembly text, which is the input at this position, is assembled to.
 pub(crate) fn text_input<'w, S: Store>(
@@ -37,7 +38,7 @@ pub(crate) fn text_input<'w, S: Store>(
         position,
         name,
         limit: LIMIT,
-        counted: true,
+        may_have_too_many: true,
     };
     let bytes = read_input(alloc, store, input)?;
     assembled(alloc, position, &bytes)
@@ -45,7 +46,7 @@ pub(crate) fn text_input<'w, S: Store>(
 
 /// What the bytes of the input at this position are assembled to.
 fn assembled<'w>(alloc: Global, position: usize, bytes: &[u8]) -> Result<Assembled, Refusal<'w>>
-    requires { length bytes.now ≤ 2 ^ 24 }
+    requires { length bytes.now ≤ spec.text_limit }
     ensures reads { ReadsAs seen_assembly position (spec.text_read bytes.now) result }
     ensures bounds { IfOk result (λ a. IsProgram (spec.listing_of (seen_assembly a))) }
 {
@@ -55,7 +56,7 @@ fn assembled<'w>(alloc: Global, position: usize, bytes: &[u8]) -> Result<Assembl
 
 /// The items of the text that is the input at this position.
 fn items_of<'w>(alloc: Global, position: usize, bytes: &[u8]) -> Result<Vec<Item>, Refusal<'w>>
-    requires { length bytes.now ≤ 2 ^ 24 }
+    requires { length bytes.now ≤ spec.text_limit }
     ensures { ReadsAs (λ items. items.items) position (spec.items_read bytes.now) result }
 {
     match parse(alloc, bytes) {
@@ -119,7 +120,7 @@ pub(crate) fn program_input<'w, S: Store>(
         position,
         name,
         limit: LIMIT,
-        counted: true,
+        may_have_too_many: true,
     };
     let bytes = read_input(alloc, store, input)?;
     program_in(alloc, position, &bytes)

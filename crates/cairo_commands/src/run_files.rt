@@ -34,7 +34,7 @@ pub(crate) fn trace_input<'w, S: Store>(
         position,
         name,
         limit: TRACE_LIMIT,
-        counted: false,
+        may_have_too_many: false,
     };
     let bytes = read_input(alloc, store, input)?;
     states_of(alloc, position, &bytes)
@@ -55,7 +55,7 @@ pub(crate) fn memory_input<'w, S: Store>(
         position,
         name,
         limit: MEMORY_LIMIT,
-        counted: false,
+        may_have_too_many: false,
     };
     let bytes = read_input(alloc, store, input)?;
     cells_of(alloc, position, &bytes)

@@ -38,7 +38,7 @@ pub(crate) fn public_input<'w, S: Store>(
         position,
         name,
         limit: PUBLIC_LIMIT,
-        counted: true,
+        may_have_too_many: true,
     };
     let bytes = read_input(alloc, store, input)?;
     public_in(alloc, position, &bytes)
@@ -83,7 +83,7 @@ pub(crate) fn tables_input<'w, S: Store>(
         position,
         name,
         limit: TABLES_LIMIT,
-        counted: true,
+        may_have_too_many: true,
     };
     let bytes = read_input(alloc, store, input)?;
     tables_in(alloc, position, &bytes)

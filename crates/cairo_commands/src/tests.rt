@@ -1,8 +1,10 @@
 //! Tables of calls. What they answer and print was computed outside, from the tables of the machine and of the files.
 
-mod checks;
+mod asm;
+mod check;
+mod dis;
 mod faults;
-mod programs;
+mod one_return;
 mod steps;
 mod tables;
 mod vectors;
@@ -56,8 +58,33 @@ fn store_of(
     Ok(MemoryStore::new(list, Vec::from_slice(alloc, fails)?))
 }
 
+/// These numbers, with another one at a place.
+fn with_number(
+    alloc: Global,
+    numbers: &[u64],
+    place: usize,
+    number: u64,
+) -> Result<Vec<u64>, AllocError> {
+    let mut changed = Vec::from_slice(alloc, numbers)?;
+    if let Some(old) = changed.get_mut(place) {
+        *old = number;
+    }
+    Ok(changed)
+}
+
+/// The status of [`perform`] with the words.
+fn status_of<S: Store, K: Sink>(
+    alloc: Global,
+    words: &[&str],
+    store: &mut S,
+    sink: &mut K,
+) -> Result<Status, AllocError> {
+    let words = words_of(alloc, words)?;
+    Ok(perform(alloc, &words, store, sink))
+}
+
 /// Calls [`perform`] with the words, and looks at its status and at what it printed.
-fn check<S: Store>(
+fn check_call<S: Store>(
     rt: &impl Abort,
     alloc: Global,
     row: &str,
@@ -65,9 +92,8 @@ fn check<S: Store>(
     store: &mut S,
     wanted: (Status, &str),
 ) -> Result<(), AllocError> {
-    let words = words_of(alloc, words)?;
     let mut sink = MemorySink::new(alloc, Vec::new(alloc));
-    let status = perform(alloc, &words, store, &mut sink);
+    let status = status_of(alloc, words, store, &mut sink)?;
     assert_eq!(rt; status, wanted.0, "{row}: the status");
     assert_eq!(rt; sink.bytes(), wanted.1.as_bytes(), "{row}: the line");
     Ok(())
@@ -83,5 +109,5 @@ fn check_walk(
     wanted: (Status, &str),
 ) -> Result<(), AllocError> {
     let mut store = store_of(alloc, &[("T", trace), ("M", memory)], &[])?;
-    check(rt, alloc, row, WALK, &mut store, wanted)
+    check_call(rt, alloc, row, WALK, &mut store, wanted)
 }

@@ -1,10 +1,10 @@
 -- What a run of tokens says of the languages that take them.
 use Rattle.std.proofs.Common.{◌≡◌, ℕ, suc, ◌-◌, ◌≤◌, ◌<◌, Bool, true, false, not, ◌||◌, ◌⊎◌, inl, inr, eqb, leb, List, [], ◌∷◌, ◌++◌, length, Option, Some, None, refl, ap, sym, subst, ◌∙◌, arith, eqb-true, leb-true, le-leb, eq-eqb, cond, codes, length-append}
 use Rattle.goldilocks.specs.declared.Felt.{Felt}
+use Rattle.goldilocks.specs.Felts.{felt}
 use Rattle.casm_statements.specs.declared.name.Reserved.{Reserved}
 use Rattle.casm_statements.specs.declared.name.Reserved.TheVariants as reserved
 use Rattle.casm_statements.specs.declared.Body.{Body}
-use Rattle.casm_statements.specs.Felts.{felt}
 use Rattle.casm_tokens.specs.declared.marks.Symbol.{Symbol}
 use Rattle.casm_tokens.specs.declared.marks.Symbol.TheVariants as symbol
 use Rattle.casm_tokens.specs.declared.fault.SyntaxKind.{SyntaxKind}
@@ -302,7 +302,7 @@ nothing : Felt
 nothing = felt 0
 
 nothing-is : nothing.number ≡ 0
-unfolding nothing felt
+unfolding nothing
 nothing-is = refl
 
 nothing-within : (b : Bounds) (most : ℕ) → Within b most nothing.number

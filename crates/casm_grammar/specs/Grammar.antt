@@ -2,6 +2,7 @@
 use Rattle.std.specs.Prelude.{ℤ, pos, neg_ℤ, Bool, true, false, List, [], ◌∷◌, ◌++◌}
 use Rattle.goldilocks.specs.declared.Felt.{Felt}
 use Rattle.goldilocks.specs.Field.{field_neg}
+use Rattle.goldilocks.specs.Felts.{felt}
 use Rattle.casm_statements.specs.declared.name.Reserved.{Reserved}
 use Rattle.casm_statements.specs.declared.name.Reserved.TheVariants as reserved
 use Rattle.casm_statements.specs.declared.Reg.{Reg}
@@ -16,7 +17,6 @@ use Rattle.casm_statements.specs.declared.Target.{Target}
 use Rattle.casm_statements.specs.declared.Target.TheVariants as target_is
 use Rattle.casm_statements.specs.declared.Body.{Body}
 use Rattle.casm_statements.specs.declared.Body.TheVariants as body
-use Rattle.casm_statements.specs.Felts.{felt}
 use Rattle.casm_tokens.specs.declared.marks.Symbol.{Symbol}
 use Rattle.casm_tokens.specs.declared.marks.Symbol.TheVariants.{Increment, AddTo, NotEqual, Open, Close, Plus, Minus, Times, Equal, Semicolon, Comma, Colon, Percent}
 use Rattle.casm_grammar.specs.declared.directive.Directive.{Directive}

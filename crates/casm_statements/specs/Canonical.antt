@@ -40,6 +40,7 @@ half = 9223372034707292160
 abbrev pub number_text : Felt → List ℕ
 number_text v = if nat_le v.number half then decimal v.number else (codes "-" ++ decimal (prime - v.number))
 
+-- A cell, or a number. Own.
 abbrev pub term_text : Term → List ℕ
 term_text (term_is.Cell c) = cell_text c
 term_text (term_is.Imm v) = number_text v
@@ -52,15 +53,17 @@ operand_text (Imm v) = number_text v
 operand_text (Sum c t) = cell_text c ++ codes " + " ++ term_text t
 operand_text (Product c t) = cell_text c ++ codes " * " ++ term_text t
 
+-- `; ap++`, or nothing. Own.
 abbrev pub inc_text : Bool → List ℕ
 inc_text true = codes "; ap++"
 inc_text false = []
 
+-- `abs` or `rel`, and a space. Own.
 abbrev pub way_text : Bool → List ℕ
 way_text true = codes "abs "
 way_text false = codes "rel "
 
--- The statements. Own.
+-- A statement. Own.
 abbrev pub stmt_text : Stmt → List ℕ
 stmt_text (Assert dst res inc) = cell_text dst ++ codes " = " ++ operand_text res ++ inc_text inc
 stmt_text (Jump abs res inc) = codes "jmp " ++ way_text abs ++ operand_text res ++ inc_text inc
@@ -69,10 +72,12 @@ stmt_text (Call abs to) = codes "call " ++ way_text abs ++ term_text to
 stmt_text Ret = codes "ret"
 stmt_text (AddAp res) = codes "ap += " ++ operand_text res
 
+-- A place: a number in decimal digits, or a name. Own.
 abbrev pub target_text : Target → List ℕ
 target_text (target_is.Number n) = decimal n
 target_text (target_is.Name text) = text
 
+-- This text, or nothing. Own.
 abbrev pub word_text : Bool → List ℕ → List ℕ
 word_text true text = text
 word_text false text = []

@@ -1,4 +1,3 @@
-pub mod Felts
 pub mod Label
 pub mod Words
 pub mod Canonical

@@ -14,7 +14,7 @@ use Rattle.casm_grammar.specs.Language.{Derives, Kept}
 use Rattle.casm_grammar.specs.Grammar.{whole_line}
 use Rattle.casm_grammar.proofs.LineLaws.{fault_excludes, one_meaning}
 use Rattle.casm_text.specs.declared.parser.Wrong.{Wrong}
-use Rattle.casm_text.specs.Meaning.{item_on, AreItems, Reads, bodies, Means, IsFirstWrong, IsTextFault}
+use Rattle.casm_text.specs.Meaning.{item_on, AreItems, Reads, bodies, MeansBodies, IsFirstWrong, IsTextFault}
 use Rattle.casm_text.specs.Views.{GoesOn}
 
 -- a place where a line is none of the grammar, as a fault
@@ -109,7 +109,7 @@ pub Reads-one : (text : List ℕ) (xs ys : List Item) → Reads text xs → Read
 Reads-one text xs ys r s =
     AreItems-one 1 s.lines xs ys (subst (λ (ls : List (List ℕ)). AreItems 1 ls xs) (same_lines text r.lines s.lines r.are_lines s.are_lines) r.mean) s.mean
 
-pub Reads-means : (text : List ℕ) (items : List Item) (meant : List Body) → Reads text items → Means text meant → meant ≡ bodies items
+pub Reads-means : (text : List ℕ) (items : List Item) (meant : List Body) → Reads text items → MeansBodies text meant → meant ≡ bodies items
 Reads-means text items meant r m = sym m.same ∙ ap bodies (Reads-one text m.items items m.reads r)
 
 -- a text with a fault means nothing
@@ -124,7 +124,7 @@ wrong_excludes n (l ∷ ls) f xs (inl w) (t, v, rest, e, cut, d, k) =
     fault_excludes (marks w.tokens) w.at f.kind v w.fault (subst (λ (x : List Placed). Derives Kept whole_line v (marks x)) (cuts_one l t w.tokens cut w.cut) d)
 wrong_excludes n (l ∷ ls) f xs (inr h) (t, v, rest, e, cut, d, k) = wrong_excludes (n + 1) ls f rest h.1 k
 
-pub fault_means_nothing : (text : List ℕ) (f : Fault) (meant : List Body) → IsTextFault text f → Means text meant → ⊥
+pub fault_means_nothing : (text : List ℕ) (f : Fault) (meant : List Body) → IsTextFault text f → MeansBodies text meant → ⊥
 fault_means_nothing text f meant (inl s) m =
     stop_excludes 1 s.lines f m.items s.first (subst (λ (ls : List (List ℕ)). AreItems 1 ls m.items) (same_lines text m.reads.lines s.lines m.reads.are_lines s.are_lines) m.reads.mean)
 fault_means_nothing text f meant (inr s) m =

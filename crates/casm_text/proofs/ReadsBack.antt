@@ -11,7 +11,7 @@ use Rattle.casm_tokens.proofs.Sound.{scan_cuts}
 use Rattle.casm_grammar.specs.Language.{Derives, Kept}
 use Rattle.casm_grammar.specs.Grammar.{whole_line}
 use Rattle.casm_text.specs.Canonical.{body_text, printed}
-use Rattle.casm_text.specs.Meaning.{item_on, AreItems, bodies, Means}
+use Rattle.casm_text.specs.Meaning.{item_on, AreItems, bodies, MeansBodies}
 use Rattle.casm_text.specs.Bounds.{IsBody}
 use Rattle.casm_text.proofs.Fits.{Fits}
 use Rattle.casm_text.proofs.Shows.{body_step}
@@ -51,7 +51,7 @@ back n (i ∷ is) h =
     subst (λ (ls : List (List ℕ)). IsBack n ls (i ∷ is)) (sym (lines_line (body_text i.body) (printed is) f.no_feed)) (IsBack-more n (body_text i.body) (lines (printed is)) i is f (back (n + 1) is (λ k d p. h (suc k) d (omega arith))))
 
 -- printed items mean what was printed
-pub printed-means : (items : List Item) → All (λ i. IsBody i.body) items → Means (printed items) (bodies items)
+pub printed-means : (items : List Item) → All (λ i. IsBody i.body) items → MeansBodies (printed items) (bodies items)
 printed-means items h =
     let b = back 1 items h in
     record { items = b.read; reads = record { lines = lines (printed items); are_lines = are_lines (printed items); mean = b.mean }; same = b.same }

@@ -11,6 +11,7 @@ use Rattle.goldilocks.specs.Field.{prime, field_neg}
 use Rattle.goldilocks.specs.Text.{Writes}
 use Rattle.goldilocks.specs.declared.Felt.{Felt}
 use Rattle.goldilocks.proofs.Texts.{Writes-decimal, Writes-hex}
+use Rattle.goldilocks.specs.Felts.{felt}
 use Rattle.casm_statements.specs.declared.name.Reserved.{Reserved}
 use Rattle.casm_statements.specs.declared.name.Reserved.TheVariants as reserved
 use Rattle.casm_statements.specs.declared.Reg.{Reg}
@@ -26,7 +27,6 @@ use Rattle.casm_statements.specs.declared.Target.{Target}
 use Rattle.casm_statements.specs.declared.Target.TheVariants as target_is
 use Rattle.casm_statements.specs.declared.Body.{Body}
 use Rattle.casm_statements.specs.declared.Body.TheVariants as body
-use Rattle.casm_statements.specs.Felts.{felt}
 use Rattle.casm_statements.specs.Label.{is_word, is_word_byte, is_word_head, is_label, reserved_word}
 use Rattle.casm_tokens.specs.declared.marks.Symbol.{Symbol}
 use Rattle.casm_tokens.specs.declared.marks.Symbol.TheVariants.{Increment, AddTo, NotEqual, Open, Close, Plus, Minus, Times, Equal, Semicolon, Colon, Percent}
@@ -68,7 +68,6 @@ digit_first b h = grind (arith, nat_tests)
 
 -- numbers
 felt-is : (n : ℕ) → n < prime → (felt n).number ≡ n
-unfolding felt
 felt-is n h = mod-eq_of_lt h
 
 run-number : (w : List ℕ) (n : ℕ) → n < prime → Writes w n → 0 < length w → ((b : ℕ) (bs : List ℕ) → w ≡ b ∷ bs → is_ascii_digit b ≡ true) → run_piece w ≡ Cut (length w) (Number (felt n))

@@ -11,10 +11,10 @@ use Rattle.casm_tokens.proofs.TokenLaws.{same_lines, same_fault, one_stop, not_b
 use Rattle.casm_grammar.specs.Language.{Derives, Kept, HasFault}
 use Rattle.casm_grammar.specs.Grammar.{whole_line}
 use Rattle.casm_grammar.proofs.LineLaws.{fault_excludes, one_fault as line_one_fault, line_or_fault}
-use Rattle.casm_text.specs.Meaning.{item_on, AreItems, bodies, Means, column_at, IsWrong, IsRight, IsFirstWrong, IsTextFault}
+use Rattle.casm_text.specs.Meaning.{item_on, AreItems, bodies, MeansBodies, column_at, IsWrong, IsRight, IsFirstWrong, IsTextFault}
 use Rattle.casm_text.proofs.Parses.{Reads-one}
 
-pub one_meaning : (text : List ℕ) (v w : List Body) → Means text v → Means text w → v ≡ w
+pub one_meaning : (text : List ℕ) (v w : List Body) → MeansBodies text v → MeansBodies text w → v ≡ w
 one_meaning text v w h k = sym h.same ∙ ap bodies (Reads-one text h.items k.items h.reads k.reads) ∙ k.same
 
 -- a line is right, or has one fault
@@ -53,13 +53,13 @@ lines_mean (l ∷ ls) n start xs (t, more, e, cut, h) = by_line (line_or_fault (
     by_line (inr (at, k, d)) rest = inr (record { line = n; column = column_at 0 t at; kind = k }, inl (record { tokens = t; cut = cut; at = at; fault = d; line = refl; column = refl }))
 
 -- a text means something, or has a fault
-pub either : (text : List ℕ) → ((meant : List Body) × Means text meant) ⊎ ((f : Fault) × IsTextFault text f)
+pub either : (text : List ℕ) → ((meant : List Body) × MeansBodies text meant) ⊎ ((f : Fault) × IsTextFault text f)
 either text = by_tokens (tokens_either text)
   where
-    by_items : (xs : List Token) (h : HasTokens text xs) → ((items : List Item) × AreItems 1 h.lines items) ⊎ ((f : Fault) × IsFirstWrong 1 h.lines f) → ((meant : List Body) × Means text meant) ⊎ ((f : Fault) × IsTextFault text f)
+    by_items : (xs : List Token) (h : HasTokens text xs) → ((items : List Item) × AreItems 1 h.lines items) ⊎ ((f : Fault) × IsFirstWrong 1 h.lines f) → ((meant : List Body) × MeansBodies text meant) ⊎ ((f : Fault) × IsTextFault text f)
     by_items xs h (inl (items, r)) = inl (bodies items, record { items = items; reads = record { lines = h.lines; are_lines = h.are_lines; mean = r }; same = refl })
     by_items xs h (inr (f, r)) = inr (f, inr (record { tokens = xs; cut = h; lines = h.lines; are_lines = h.are_lines; first = r }))
 
-    by_tokens : ((xs : List Token) × HasTokens text xs) ⊎ ((f : Fault) × HasStop text f) → ((meant : List Body) × Means text meant) ⊎ ((f : Fault) × IsTextFault text f)
+    by_tokens : ((xs : List Token) × HasTokens text xs) ⊎ ((f : Fault) × HasStop text f) → ((meant : List Body) × MeansBodies text meant) ⊎ ((f : Fault) × IsTextFault text f)
     by_tokens (inl (xs, h)) = by_items xs h (lines_mean h.lines 1 0 xs h.are_tokens)
     by_tokens (inr (f, h)) = inr (f, inl h)

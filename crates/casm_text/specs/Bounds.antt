@@ -18,12 +18,12 @@ abbrev pub IsOffset : ℤ → Type 0
 IsOffset (pos n) = n ≤ 32767
 IsOffset (negsuc n) = n < 32768
 
--- The parts of items that are as their types keep them: offsets in their bounds, places below 2^32, and names that are
--- labels. Own.
+-- A term as its type keeps it: the offset of its cell fits. Own.
 abbrev pub IsTerm : Term → Type 0
 IsTerm (term_is.Cell c) = IsOffset c.off
 IsTerm (term_is.Imm x) = Unit {0}
 
+-- An operand as its type keeps it: its offsets fit. Own.
 abbrev pub IsOperand : Operand → Type 0
 IsOperand (Deref c) = IsOffset c.off
 IsOperand (Double c o) = IsOffset c.off × IsOffset o
@@ -31,6 +31,7 @@ IsOperand (Imm x) = Unit {0}
 IsOperand (Sum c t) = IsOffset c.off × IsTerm t
 IsOperand (Product c t) = IsOffset c.off × IsTerm t
 
+-- A statement as its type keeps it: its offsets fit. Own.
 abbrev pub IsStmt : Stmt → Type 0
 IsStmt (Assert dst r i) = IsOffset dst.off × IsOperand r
 IsStmt (Jump abs r i) = IsOperand r
@@ -39,10 +40,12 @@ IsStmt (Call abs t) = IsTerm t
 IsStmt Ret = Unit {0}
 IsStmt (AddAp r) = IsOperand r
 
+-- A target as its type keeps it: a place below 2^32, or a name that is a label. Own.
 abbrev pub IsTarget : Target → Type 0
 IsTarget (target_is.Number n) = n < 2 ^ 32
 IsTarget (target_is.Name n) = IsTrue (is_label n)
 
+-- What a line says, as its type keeps it: its offsets fit, its places are below 2^32, and its names are labels. Own.
 abbrev pub IsBody : Body → Type 0
 IsBody (body.Builtins o r) = Unit {0}
 IsBody (body.Start t) = IsTarget t

@@ -33,12 +33,12 @@ abbrev pub bodies : List Item → List Body
 bodies = map (λ i. i.body)
 
 -- The text means these bodies: they are those of the items that it reads as. Own.
-pub record Means (text : List ℕ) (meant : List Body) : Type 0 where
+pub record MeansBodies (text : List ℕ) (meant : List Body) : Type 0 where
   pub items : List Item
   pub reads : Reads text items
   pub same : bodies items ≡ meant
 
--- The column of a token of a line, by how many stand before it, or the one behind the last token; the first number is
+-- The column of a token of a line, by how many stand before it, or the one behind the last token. The first number is
 -- where the token before these ends. Own.
 abbrev pub column_at : ℕ → List Placed → ℕ → ℕ
 column_at end [] n = end + 1
@@ -87,4 +87,4 @@ TellsText (Syntax line column kind) text = IsTextFault text (record { line = lin
 -- A refusal that is not for want of memory is of a text that means nothing. Own.
 abbrev pub Excludes : ParseFault → List ℕ → Type 0
 Excludes Memory text = Unit {0}
-Excludes (Syntax line column kind) text = (meant : List Body) → Means text meant → ⊥
+Excludes (Syntax line column kind) text = (meant : List Body) → MeansBodies text meant → ⊥

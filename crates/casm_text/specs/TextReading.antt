@@ -30,8 +30,8 @@ unfoldable pub first_stop : ℕ → List (List ℕ) → Option Fault
 first_stop n [] = None
 first_stop n (bytes ∷ others) = stop_or n (scan bytes).stop (first_stop (n + 1) others)
 
--- A reading of the line with this number and these tokens, as items on it; where it is refused, as the fault at the
--- token behind which the refusal's tokens are left. Own.
+-- A reading of the line with this number and these tokens, as items on it. Where it is refused, the fault stands at the
+-- first of the tokens that are left, or behind the last token where none is left. Own.
 abbrev pub on_line : ℕ → List Placed → Result (List Body) Refusal → Result (List Item) Fault
 on_line n tokens (Ok v) = Ok (map (item_on n) v)
 on_line n tokens (Err stop) = Err (record { line = n; column = column_at 0 tokens (length tokens - stop.0); kind = stop.1 })

@@ -4,7 +4,8 @@
 ghost use Rattle.std.specs.Prelude.{◌≡◌, ◌≤◌, List, map, length, IfOk, IfErr};
 ghost use Rattle.casm_statements.specs.declared.Body.{Body};
 ghost use Rattle.casm_tokens.specs.Marks.{placed_of};
-ghost use Rattle.casm_text.specs.Meaning.{Reads, Means, bodies, column_at, TellsText, Excludes};
+ghost use Rattle.casm_tokens.specs.Limits.{most_bytes};
+ghost use Rattle.casm_text.specs.Meaning.{Reads, MeansBodies, bodies, column_at, TellsText, Excludes};
 ghost use Rattle.casm_text.specs.Views.{AddsLine, GoesOn};
 
 use crate::items::push_items;
@@ -26,13 +27,15 @@ struct Wrong {
 
 /// The items of a text, with their lines from 1.
 ///
-/// A text is refused first at the least place where no token stands, as by [`tokens`](casm_tokens::tokens); then at the
-/// first token with which its line begins none of the grammar ([`SyntaxKind::Token`]) or that is a number out of its bounds
-/// ([`SyntaxKind::Range`]), or behind a line's last token where more is missing ([`SyntaxKind::Token`]).
+/// The text has at most 2^24 bytes. It is refused first at the least place where no token stands, as by
+/// [`tokens`](casm_tokens::tokens). Where there is none, it is refused in its first line that is none of the grammar.
+/// The place is the first token with which that line begins none ([`SyntaxKind::Token`]), or that is a number out of
+/// its bounds ([`SyntaxKind::Range`]). Where more is missing, it is behind the line's last token
+/// ([`SyntaxKind::Token`]).
 pub fn parse(alloc: Global, text: &[u8]) -> Result<Vec<Item>, ParseFault>
-    requires { length text.now ≤ 16777216 }
+    requires { length text.now ≤ most_bytes }
     ensures reads { IfOk result (λ items. Reads text.now items.items) }
-    ensures only { IfOk result (λ items. (meant : List Body) → Means text.now meant → meant ≡ bodies items.items) }
+    ensures only { IfOk result (λ items. (meant : List Body) → MeansBodies text.now meant → meant ≡ bodies items.items) }
     ensures fault { IfErr result (λ fault. TellsText fault text.now) }
     ensures means_nothing { IfErr result (λ fault. Excludes fault text.now) }
 {

@@ -4,7 +4,7 @@
 ghost use Rattle.std.specs.Prelude.{◌≡◌, ◌++◌, OnOk, IfOk};
 ghost use Rattle.std.specs.Fmt.{decimal};
 ghost use Rattle.casm_text.specs.Canonical.{reg_text, offset_text, cell_text, number_text, term_text, operand_text, inc_text, way_text, stmt_text, target_text, word_text, body_text, printed};
-ghost use Rattle.casm_text.specs.Meaning.{Means, bodies};
+ghost use Rattle.casm_text.specs.Meaning.{MeansBodies, bodies};
 ghost use Rattle.casm_text.specs.Bounds.{IsOffset, IsTerm, IsOperand, IsStmt, IsTarget, IsBody};
 
 use casm_statements::{Body, Cell, Item, Name, Operand, Reg, Stmt, Target, Term};
@@ -19,7 +19,7 @@ pub fn print(alloc: Global, items: &[Item]) -> Result<Vec<u8>, AllocError>
     ensures text { IfOk result (λ text. text.items ≡ printed items.now) }
 
     // It means what was printed: of at most 2^24 bytes, `parse` reads the same bodies.
-    ensures reads_back { IfOk result (λ text. Means text.items (bodies items.now)) }
+    ensures reads_back { IfOk result (λ text. MeansBodies text.items (bodies items.now)) }
 {
     let mut out = Vec::new(alloc);
     for item in items {

@@ -9,15 +9,14 @@ use Rattle.std.proofs.lemmas.Bool.{cases_lt}
 use Rattle.goldilocks.specs.Field.{prime}
 use Rattle.goldilocks.specs.declared.Felt.{Felt}
 use Rattle.goldilocks.specs.Text.{base_of, digit_bytes, mark_len, text_number, IsNumberText, Writes, IsTooLarge}
-use Rattle.casm_statements.specs.Felts.{felt}
-use Rattle.casm_statements.proofs.Felts.{same_felt}
+use Rattle.goldilocks.specs.Felts.{felt}
+use Rattle.goldilocks.proofs.Pairs.{same_felt}
 use Rattle.casm_tokens.specs.declared.fault.SyntaxKind.TheVariants as kind
 use Rattle.casm_tokens.specs.Marks.{Number}
 use Rattle.casm_tokens.specs.Pieces.{Cut, Bad, is_number, number_piece}
 
 -- a value is the one of its number
 pub felt-number : (v : Felt) → felt v.number ≡ v
-unfolding felt
 felt-number v = same_felt (felt v.number) v (mod-eq_of_lt v.in_field)
 
 -- the test of digits

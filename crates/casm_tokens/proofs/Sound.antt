@@ -10,8 +10,8 @@ use Rattle.std.specs.List.{list_all, prefix_len}
 use Rattle.std.specs.Char.{is_ascii_digit}
 use Rattle.goldilocks.specs.Field.{prime}
 use Rattle.goldilocks.specs.Text.{text_number, Writes, IsTooLarge}
+use Rattle.goldilocks.specs.Felts.{felt}
 use Rattle.casm_statements.specs.declared.name.Reserved.{Reserved}
-use Rattle.casm_statements.specs.Felts.{felt}
 use Rattle.casm_statements.specs.Label.{is_word_byte, is_word, is_label, reserved_word}
 use Rattle.casm_tokens.specs.declared.fault.SyntaxKind.{SyntaxKind}
 use Rattle.casm_tokens.specs.declared.fault.SyntaxKind.TheVariants as kind
@@ -61,7 +61,7 @@ absurd_not t d e p = let h = d.1 p in cc
 
 -- a number
 number_is : (text rest : List ℕ) → is_numeral text ≡ true → IsRun text → ends_run rest ≡ true → IsPiece (text ++ rest) (number_piece text)
-unfolding number_piece IsTooLarge Writes felt
+unfolding number_piece IsTooLarge Writes
 number_is text rest digit r e =
     let number = is_number_tells text in let low = Decides-ltb (text_number text) prime in
     choose2 (IsPiece (text ++ rest)) (is_number text) (nat_lt (text_number text) prime) (Bad kind.Number) (Bad kind.Range) (Cut (length text) (Number (felt (text_number text))))

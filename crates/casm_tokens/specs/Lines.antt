@@ -70,12 +70,12 @@ pub record HasStop (text : List ℕ) (f : Fault) : Type 0 where
   pub first : IsFirstStop 1 lines f
 
 -- A refusal is of the least such place, unless there was no memory. Own.
-abbrev pub Tells : ParseFault → List ℕ → Type 0
-Tells Memory text = Unit {0}
-Tells (Syntax line column kind) text = HasStop text (record { line = line; column = column; kind = kind })
+abbrev pub TellsStop : ParseFault → List ℕ → Type 0
+TellsStop Memory text = Unit {0}
+TellsStop (Syntax line column kind) text = HasStop text (record { line = line; column = column; kind = kind })
 
--- The tokens stand one after another: the first begins at this place or behind it, each next one where the one before
--- ends or behind that, each has at least one byte, and the last ends at most there. Own.
+-- The tokens stand one after another, and each has at least one byte. The first begins at the first number or behind
+-- it. Each next one begins where the one before ends, or behind that. The last ends at the second number at most. Own.
 abbrev pub AreInOrder : ℕ → ℕ → List Token → Type 0
 AreInOrder from most [] = from ≤ most
 AreInOrder from most (t ∷ ts) = (from ≤ t.start) × (t.start < t.end) × AreInOrder t.end most ts

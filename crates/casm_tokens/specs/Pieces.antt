@@ -5,8 +5,8 @@ use Rattle.std.specs.List.{list_all, prefix_len, starts_with}
 use Rattle.std.specs.Char.{is_ascii_digit, digit_value}
 use Rattle.goldilocks.specs.Field.{prime}
 use Rattle.goldilocks.specs.Text.{base_of, digit_bytes, text_number}
+use Rattle.goldilocks.specs.Felts.{felt}
 use Rattle.casm_statements.specs.declared.name.Reserved.{Reserved}
-use Rattle.casm_statements.specs.Felts.{felt}
 use Rattle.casm_statements.specs.Label.{is_word_byte, reserved_word}
 use Rattle.casm_tokens.specs.declared.fault.SyntaxKind.{SyntaxKind}
 use Rattle.casm_tokens.specs.declared.fault.SyntaxKind.TheVariants as kind

@@ -4,7 +4,8 @@
 ghost use Rattle.std.specs.Prelude.{◌≡◌, ◌≤◌, ◌+◌, ◌++◌, length, map, IfOk, IfErr};
 ghost use Rattle.casm_tokens.specs.Marks.{mark_of, placed_of};
 ghost use Rattle.std.specs.List.{AllByRecursion};
-ghost use Rattle.casm_tokens.specs.Lines.{kind_of, token_at, HasTokens, AreInOrder, IsSliceOf, Tells};
+ghost use Rattle.casm_tokens.specs.Lines.{kind_of, token_at, HasTokens, AreInOrder, IsSliceOf, TellsStop};
+ghost use Rattle.casm_tokens.specs.Limits.{most_bytes};
 
 use crate::fault::{ParseFault, SyntaxKind};
 use crate::lines::split_line;
@@ -15,14 +16,15 @@ use std::alloc::{AllocError, Global};
 
 /// The tokens of a text, in their order; the bytes of each are those of the text from its start to its end.
 ///
-/// A text is refused at the least place where a byte outside comments begins no token ([`SyntaxKind::Char`]), or where a
-/// number has a bad or missing digit ([`SyntaxKind::Number`]) or is p or more ([`SyntaxKind::Range`]).
+/// The text has at most 2^24 bytes. It is refused at the least place where a byte outside comments begins no token
+/// ([`SyntaxKind::Char`]). A number with a bad digit or none is such a place, too ([`SyntaxKind::Number`]), and so is
+/// one of p or more ([`SyntaxKind::Range`]).
 pub fn tokens(alloc: Global, text: &[u8]) -> Result<Vec<Token>, ParseFault>
-    requires { length text.now ≤ 16777216 }
+    requires { length text.now ≤ most_bytes }
     ensures tokens { IfOk result (λ found. HasTokens text.now found.items) }
     ensures order { IfOk result (λ found. AreInOrder 0 (length text.now) found.items) }
     ensures slices { IfOk result (λ found. AllByRecursion (IsSliceOf text.now) found.items) }
-    ensures fault { IfErr result (λ fault. Tells fault text.now) }
+    ensures fault { IfErr result (λ fault. TellsStop fault text.now) }
 {
     let mut found = Vec::new(alloc);
     let mut lexemes = Vec::new(alloc);
@@ -44,9 +46,9 @@ pub fn tokens(alloc: Global, text: &[u8]) -> Result<Vec<Token>, ParseFault>
     }
 }
 
-/// The refusal of a line at a place where no token stands.
+/// The refusal of a line at a place where no token stands. `stop.at` is at most 2^24.
 pub fn stop_fault(line: u32, stop: Stop) -> ParseFault
-    requires { stop.at ≤ 16777216 }
+    requires { stop.at ≤ most_bytes }
     ensures { result ≡ ParseFault.Syntax line (stop.at + 1) stop.kind }
 {
     ParseFault::Syntax {
@@ -63,7 +65,7 @@ fn push_tokens(
     line: u32,
     start: u32,
 ) -> Result<(), AllocError>
-    requires { start ≤ 16777216 }
+    requires { start ≤ most_bytes }
     ensures { IfOk result (λ _. found.new.items ≡ found.old.items ++ map (token_at line start) (map placed_of lexemes.now.items)) }
 {
     for lexeme in lexemes {

@@ -7,8 +7,8 @@ ghost use Rattle.casm_tokens.specs.Tokens.{CutsInto, StopsAt};
 ghost use Rattle.casm_tokens.specs.Lines.{Fault, HasTokens, HasStop};
 ghost use Rattle.casm_tokens.specs.Pieces.{scan};
 
-/// Each text has tokens or a least place where none stands, never both, and one of them at most. What the tokens of a
-/// line are is exactly what a scan from its left end finds.
+/// Each text has tokens or a least place where none stands, never both. It has one list of tokens or one such place at
+/// most. What the tokens of a line are is exactly what a scan from its left end finds.
 pub fn token_laws()
     ensures either { (text : List ℕ) → ((xs : List Token) × HasTokens text xs) ⊎ ((f : Fault) × HasStop text f) }
     ensures not_both { (text : List ℕ) (xs : List Token) (f : Fault) → HasTokens text xs → HasStop text f → ⊥ }

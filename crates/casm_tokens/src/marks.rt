@@ -1,5 +1,6 @@
 //! Tokens as the grammar sees them.
 ghost use Rattle.std.specs.Prelude.{◌≤◌};
+ghost use Rattle.casm_tokens.specs.Limits.{most_bytes};
 
 use casm_statements::{Label, Reserved};
 use goldilocks::Felt;
@@ -61,5 +62,5 @@ pub struct Lexeme<'a> {
     /// What it says.
     pub mark: Mark<'a>,
     pub ghost ordered: { start ≤ end },
-    pub ghost in_text: { end ≤ 16777216 },
+    pub ghost in_text: { end ≤ most_bytes },
 }

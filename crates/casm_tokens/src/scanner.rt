@@ -4,6 +4,7 @@
 ghost use Rattle.std.specs.Prelude.{◌≡◌, ◌+◌, ◌≤◌, length, map, IfOk, IfSome, MatchOption};
 ghost use Rattle.casm_tokens.specs.Marks.{placed_of};
 ghost use Rattle.casm_tokens.specs.Tokens.{CutsInto, StopsAt};
+ghost use Rattle.casm_tokens.specs.Limits.{most_bytes};
 
 use crate::fault::SyntaxKind;
 use crate::marks::Lexeme;
@@ -20,12 +21,12 @@ pub struct Stop {
 }
 
 /// Puts the tokens of a line in the place of the lexemes, or answers the first place where none stands. Then, and where
-/// memory runs out, the lexemes may be any.
+/// memory runs out, the lexemes may be any. The line has at most 2^24 bytes.
 pub fn scan_line<'a>(
     line: &'a [u8],
     lexemes: &mut Vec<Lexeme<'a>>,
 ) -> Result<Option<Stop>, AllocError>
-    requires { length line.now ≤ 16777216 }
+    requires { length line.now ≤ most_bytes }
     ensures tokens { IfOk result (λ stop.
         MatchOption stop (CutsInto line.now (map placed_of lexemes.new.items)) (λ s. StopsAt line.now s.at s.kind)) }
     ensures within { IfOk result (λ stop. IfSome stop (λ s. s.at ≤ length line.now)) }

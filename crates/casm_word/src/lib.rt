@@ -105,7 +105,7 @@ pub enum WordFault {
     Undefined(Shape),
 }
 
-/// A memory that is only read: a finite map from numbers of the field to numbers of the field.
+/// A memory that is only read: a partial map from numbers of the field to numbers of the field.
 pub trait Reads {
     ghost use Rattle.std.specs.Prelude.{◌≡◌, ℕ, Option, option_map};
 

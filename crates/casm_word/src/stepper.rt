@@ -12,9 +12,10 @@ use goldilocks::Felt;
 
 /// One step of the machine from the state `s`, in the memory `m`.
 ///
-/// The first of these that comes up is answered: [`StepResult::NoCell`] where the cell at pc is missing,
-/// [`StepResult::BadWord`] where it is no instruction, [`StepResult::NoCell`] where the cell of dst, op0 or op1 is
-/// missing, [`StepResult::CallPc`], [`StepResult::CallFp`], [`StepResult::NotEqual`]. Else it is [`StepResult::Next`].
+/// The first of these that comes up is answered. It is [`StepResult::NoCell`] where the cell at pc is missing, and
+/// [`StepResult::BadWord`] where it is no instruction. Then it is [`StepResult::NoCell`] where the cell of dst, op0 or
+/// op1 is missing. Then come [`StepResult::CallPc`], [`StepResult::CallFp`] and [`StepResult::NotEqual`]. Else it is
+/// [`StepResult::Next`].
 pub fn step<M: Reads>(m: &M, s: State) -> StepResult
     ensures outcome { outcome_of result ≡ outcome (M.cells m.now) (registers s) }
     ensures next { reached result ≡ next (M.cells m.now) (registers s) }

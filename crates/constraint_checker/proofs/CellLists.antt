@@ -7,11 +7,12 @@ use Rattle.goldilocks.specs.Field.{prime, field_add}
 use Rattle.goldilocks.specs.declared.Felt.{Felt}
 use Rattle.goldilocks.specs.declared.Pair.{Pair}
 use Rattle.goldilocks.proofs.Pairs.{same_felt}
+use Rattle.goldilocks.specs.Felts.{felt}
 use Rattle.range_columns.specs.declared.RangeRow.{RangeRow}
 use Rattle.program_file.specs.Listing.{Listing}
 use Rattle.public_input.specs.Statement.{Statement}
 use Rattle.table_file.specs.Tables.{Contents}
-use Rattle.constraint_checker.specs.Lists.{felt_of, cell, cells_from, row_cells, range_cells, program_cells, accesses, row_offsets, limbs, range_values}
+use Rattle.constraint_checker.specs.Lists.{cell, cells_from, row_cells, range_cells, program_cells, accesses, row_offsets, limbs, range_values}
 
 -- the pieces of one more item
 pub pieces_more : {X A : Type 0} (piece : X → List A) (before now after : List A) (items : List X) (i : ℕ) (x : X) → i < length items → x ≡ get_or items i x → now ≡ before ++ flat_map piece (take i items) → after ≡ now ++ piece x → after ≡ before ++ flat_map piece (take (i + 1) items)
@@ -26,21 +27,21 @@ all_pieces piece before now items i le so_far = so_far ∙ ap (λ xs. before ++ 
 
 -- ---- cells one after another
 
-pub cells_from-push : (address : ℕ) (values : List Felt) (v : Felt) → cells_from address (values ++ v ∷ []) ≡ cells_from address values ++ cell (felt_of (address + length values)) v ∷ []
+pub cells_from-push : (address : ℕ) (values : List Felt) (v : Felt) → cells_from address (values ++ v ∷ []) ≡ cells_from address values ++ cell (felt (address + length values)) v ∷ []
 unfolding cells_from
-cells_from-push address [] v = ap (λ n. cell (felt_of n) v ∷ []) (sym (add-zero address))
+cells_from-push address [] v = ap (λ n. cell (felt n) v ∷ []) (sym (add-zero address))
 cells_from-push address (x ∷ values) v =
-    ap (λ cells. cell (felt_of address) x ∷ cells) (cells_from-push (address + 1) values v
-    ∙ ap (λ n. cells_from (address + 1) values ++ cell (felt_of n) v ∷ []) (omega arith))
+    ap (λ cells. cell (felt address) x ∷ cells) (cells_from-push (address + 1) values v
+    ∙ ap (λ n. cells_from (address + 1) values ++ cell (felt n) v ∷ []) (omega arith))
 
 -- one more cell behind the others
 cell_more : (before now after : List Pair) (address : ℕ) (values : List Felt) (addr v : Felt) → now ≡ before ++ cells_from address values → addr.number ≡ (address + length values) % prime → after ≡ now ++ cell addr v ∷ [] → after ≡ before ++ cells_from address (values ++ v ∷ [])
 cell_more before now after address values addr v so_far at e =
-    let there : addr ≡ felt_of (address + length values) = same_felt addr (felt_of (address + length values)) at in
+    let there : addr ≡ felt (address + length values) = same_felt addr (felt (address + length values)) at in
     e
     ∙ (ap (λ cells. cells ++ cell addr v ∷ []) so_far
     ∙ (ap (λ a. (before ++ cells_from address values) ++ cell a v ∷ []) there
-    ∙ (append_assoc before (cells_from address values) (cell (felt_of (address + length values)) v ∷ [])
+    ∙ (append_assoc before (cells_from address values) (cell (felt (address + length values)) v ∷ [])
     ∙ ap (λ cells. before ++ cells) (sym (cells_from-push address values v)))))
 
 pub word_more : (before now after : List Pair) (address : ℕ) (words : List Felt) (i : ℕ) (addr v : Felt) → i < length words → v ≡ get_or words i v → now ≡ before ++ cells_from address (take i words) → addr.number ≡ (address + i) % prime → after ≡ now ++ cell addr v ∷ [] → after ≡ before ++ cells_from address (take (i + 1) words)

@@ -9,10 +9,11 @@ use Rattle.std.proofs.lemmas.Option.{slice_get-map, slice_get_within, get_or_fro
 use Rattle.goldilocks.specs.Field.{prime, field_add}
 use Rattle.goldilocks.specs.declared.Felt.{Felt}
 use Rattle.goldilocks.specs.declared.Pair.{Pair}
+use Rattle.goldilocks.specs.Felts.{felt}
 use Rattle.casm_word.specs.Transition.{Registers, registers}
 use Rattle.cpu_rows.specs.declared.Row.{Row}
 use Rattle.cpu_rows.specs.Columns.{columns}
-use Rattle.cpu_rows.specs.Steps.{HasSmallOffsets, HasCells, accesses as row_accesses, offsets as offsets_of}
+use Rattle.cpu_rows.specs.Steps.{HasSmallOffsets, HasCells, row_accesses, offsets as offsets_of}
 use Rattle.cpu_rows.proofs.FaultsOfRows.{length-states_of}
 use Rattle.memory_columns.specs.OneMemory.{Holds}
 use Rattle.memory_columns.proofs.OneMemory.{one_memory, no_fault_exactly as no_memory_fault}
@@ -26,7 +27,7 @@ use Rattle.program_file.specs.Listing.{Listing}
 use Rattle.public_input.specs.Statement.{Statement}
 use Rattle.public_input.specs.Valid.{KeepsLimits}
 use Rattle.table_file.specs.Tables.{Contents, AreValid}
-use Rattle.constraint_checker.specs.Lists.{felt_of, cell, cells_from, row_cells, range_cells, program_cells, accesses, row_offsets, limbs, range_values}
+use Rattle.constraint_checker.specs.Lists.{cell, cells_from, row_cells, range_cells, program_cells, accesses, row_offsets, limbs, range_values}
 use Rattle.constraint_checker.specs.Constraints.{MeetsAll, states, first_state}
 use Rattle.constraint_checker.specs.Acceptance.{memory_in, DescribeRun}
 use Rattle.constraint_checker.specs.Parts.{RunsAnywhere}
@@ -50,14 +51,14 @@ each_piece R piece (x ∷ items) all (suc k) d lt = each_piece R piece items (bo
 holds_at : {X : Type 0} (R : X → Type 0) (xs : List X) (i : ℕ) (x : X) → All R xs → slice_get xs i ≡ Some x → R x
 holds_at R xs i x all e = subst R (get_or_from_slice_get xs i x x e) (all i x (slice_get_within xs i x e))
 
-cells_from-at : (address : ℕ) (values : List Felt) (i : ℕ) (v : Felt) → slice_get values i ≡ Some v → slice_get (cells_from address values) i ≡ Some (cell (felt_of (address + i)) v)
+cells_from-at : (address : ℕ) (values : List Felt) (i : ℕ) (v : Felt) → slice_get values i ≡ Some v → slice_get (cells_from address values) i ≡ Some (cell (felt (address + i)) v)
 unfolding cells_from
 cells_from-at address [] i v e = absurd (cc)
 cells_from-at address (x ∷ values) zero v e =
     let here : x ≡ v = cc in
-    ap (λ y. Some (cell (felt_of address) y)) here ∙ ap (λ n. Some (cell (felt_of n) v)) (sym (add-zero address))
+    ap (λ y. Some (cell (felt address) y)) here ∙ ap (λ n. Some (cell (felt n) v)) (sym (add-zero address))
 cells_from-at address (x ∷ values) (suc i) v e =
-    cells_from-at (address + 1) values i v e ∙ ap (λ n. Some (cell (felt_of n) v)) (omega arith)
+    cells_from-at (address + 1) values i v e ∙ ap (λ n. Some (cell (felt n) v)) (omega arith)
 
 registers_are : (r : Registers) (pc apc fp : ℕ) → r.pc ≡ pc → r.ap ≡ apc → r.fp ≡ fp → r ≡ record { pc = pc; ap = apc; fp = fp }
 registers_are r pc apc fp p q s =
@@ -93,7 +94,7 @@ module _ (program : Listing) (public : Statement) (tables : Contents) (few : len
   unfolding program_cells
   program_held i word e =
       let there : memory_in tables ((1 + i) % prime) ≡ Some word.number =
-      holds_at Has (cells_from 1 program.words) i (cell (felt_of (1 + i)) word) access_parts.2 (cells_from-at 1 program.words i word e) in
+      holds_at Has (cells_from 1 program.words) i (cell (felt (1 + i)) word) access_parts.2 (cells_from-at 1 program.words i word e) in
       let low : 1 + i < prime = omega (arith, few, slice_get_within program.words i word e) in
       subst (λ a. memory_in tables a ≡ Some word.number) (mod-eq_of_lt low) there
 
@@ -101,7 +102,7 @@ module _ (program : Listing) (public : Statement) (tables : Contents) (few : len
   unfolding range_cells field_add
   range_held i row e =
       let value : RangeRow → Felt = λ r. r.value in
-      holds_at Has (cells_from public.range_begin.number (map value tables.range)) i (cell (felt_of (public.range_begin.number + i)) row.value) access_parts.1
+      holds_at Has (cells_from public.range_begin.number (map value tables.range)) i (cell (felt (public.range_begin.number + i)) row.value) access_parts.1
       (cells_from-at public.range_begin.number (map value tables.range) i row.value (slice_get-map value tables.range i ∙ ap (option_map value) e))
 
   public_held : Holds (memory_in tables) public.cells

@@ -2,7 +2,7 @@
 use Rattle.std.proofs.Common.{◌≡◌, ℕ, zero, suc, ◌+◌, ◌<◌, ◌∙◌, inl, inr, List, [], ◌∷◌, length, get_or, map, Option, Some, None, refl, ap, subst, arith, add-zero}
 use Rattle.std.specs.List.{flat_map, enumerate_from, zip}
 use Rattle.std.proofs.lemmas.Bool.{cases_Bool}
-use Rattle.cpu_rows.specs.Equations.{Equation, holds, first_failing as least_failing}
+use Rattle.cpu_rows.specs.Equations.{Equation, holds, failing_number as least_failing}
 use Rattle.sorted_lists.specs.Climbing.{here_or_later, first_after, first_between}
 use Rattle.constraint_checker.specs.declared.Constraint.{Constraint}
 use Rattle.constraint_checker.specs.declared.Constraint.TheVariants.{C}

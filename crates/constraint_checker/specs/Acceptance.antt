@@ -1,16 +1,17 @@
 -- What it means that tables are accepted. "The whitepaper" is Cairo's, ePrint 2021/1063.
-use Rattle.std.specs.Prelude.{ℕ, ◌≡◌, ◌+◌, ◌<◌, ◌^◌, map, length, All, Some, slice_get}
+use Rattle.std.specs.Prelude.{ℕ, ◌≡◌, ◌+◌, ◌<◌, map, length, All, Some, slice_get}
 use Rattle.goldilocks.specs.Field.{field_add}
 use Rattle.goldilocks.specs.declared.Felt.{Felt}
 use Rattle.casm_word.specs.Transition.{Memory}
 use Rattle.casm_word.specs.Run.{LegalRun}
 use Rattle.cpu_rows.specs.Columns.{columns}
 use Rattle.cpu_rows.specs.Steps.{HasSmallOffsets}
-use Rattle.memory_columns.specs.OneMemory.{memory_of, Holds}
+use Rattle.memory_columns.specs.OneMemory.{memory_of_pairs, Holds}
 use Rattle.range_columns.specs.declared.RangeRow.{RangeRow}
 use Rattle.range_columns.specs.Equations.{IsWithin}
 use Rattle.program_file.specs.Listing.{Listing}
 use Rattle.public_input.specs.Statement.{Statement}
+use Rattle.range_columns.specs.Limbs.{range_bound}
 use Rattle.table_file.specs.Tables.{Contents}
 use Rattle.constraint_checker.specs.Lists.{accesses, range_values}
 use Rattle.constraint_checker.specs.Constraints.{states, last_state}
@@ -18,7 +19,7 @@ use Rattle.constraint_checker.specs.Constraints.{states, last_state}
 -- The memory of the tables: at each address the value at its first place in the sorted pairs. The whitepaper proves of
 -- its nondeterministic continuous read-only memory that there is one; here it is read off.
 abbrev pub memory_in : Contents → Memory
-memory_in tables = memory_of tables.pairs
+memory_in tables = memory_of_pairs tables.pairs
 
 -- The tables describe a run of the program, with this public input. The whitepaper's statement of what a proof of a run
 -- shows.
@@ -47,5 +48,5 @@ pub record DescribeRun (program : Listing) (public : Statement) (tables : Conten
   -- Each biased offset of a row is below 2^16.
   pub offsets : All HasSmallOffsets (map columns tables.rows)
   -- Each range cell is below 2^48, and there are as many as the public input says.
-  pub range_cells : All (λ row. row.value.number < 2 ^ 48) tables.range
+  pub range_cells : All (λ row. row.value.number < range_bound) tables.range
   pub range_count : length tables.range ≡ public.range_count

@@ -70,8 +70,8 @@ abbrev pub pair_difference : List Pair → List Pair → Option ℕ
 pair_difference found sorted = list_difference is_same_pair (in_order pair_cmp found) (in_order pair_cmp sorted)
 
 -- The same of values of the range check and sorted ones. Own.
-abbrev pub value_difference : List Felt → List Felt → Option ℕ
-value_difference found sorted = list_difference is_same_felt (in_order felt_cmp found) (in_order felt_cmp sorted)
+abbrev pub range_difference : List Felt → List Felt → Option ℕ
+range_difference found sorted = list_difference is_same_felt (in_order felt_cmp found) (in_order felt_cmp sorted)
 
 -- All written constraints in their order. C1 to C39 are asked of each row and the state after it, and V1 of each range
 -- row. M1 and M2 are asked of each sorted pair and the next, Q2 of each sorted range value and the next. The
@@ -104,7 +104,7 @@ conditions program public tables =
     ∷ [])
     ++ at_each (neighbours values) (λ i pair. condition (Q 2) i (climb pair.0.number pair.1.number == 0) ∷ [])
     ++ (condition (Q 3) (length values - 1) (is_number public.rc_max (last_number values))
-    ∷ are_one (Q 4) (value_difference (range_values tables) values)
+    ∷ are_one (Q 4) (range_difference (range_values tables) values)
     ∷ [])
 
 -- ---- the constraints, each once

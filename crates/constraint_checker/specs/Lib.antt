@@ -15,3 +15,4 @@ pub use Rattle.program_file.specs.Listing
 pub use Rattle.public_input.specs.Statement
 pub use Rattle.public_input.specs.Valid
 pub use Rattle.table_file.specs.Tables
+pub use Rattle.memory_columns.specs.Filling

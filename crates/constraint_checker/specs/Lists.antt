@@ -1,21 +1,15 @@
 -- The two lists that tables are checked by: every access to the memory, and every value of the range check. "The
 -- whitepaper" is Cairo's, ePrint 2021/1063.
-use Rattle.std.specs.Prelude.{ℕ, ◌%◌, List, [], ◌∷◌, ◌++◌, map}
+use Rattle.std.specs.Prelude.{ℕ, List, [], ◌∷◌, ◌++◌, map}
 use Rattle.std.specs.List.{flat_map, enumerate_from}
-use Rattle.std.proofs.Common.{lit<}
-use Rattle.std.proofs.Math.Nat.{mod-lt}
-use Rattle.goldilocks.specs.Field.{prime}
 use Rattle.goldilocks.specs.declared.Felt.{Felt}
 use Rattle.goldilocks.specs.declared.Pair.{Pair}
+use Rattle.goldilocks.specs.Felts.{felt}
 use Rattle.cpu_rows.specs.declared.Row.{Row}
 use Rattle.range_columns.specs.declared.RangeRow.{RangeRow}
 use Rattle.program_file.specs.Listing.{Listing}
 use Rattle.public_input.specs.Statement.{Statement}
 use Rattle.table_file.specs.Tables.{Contents}
-
--- A whole number modulo p, as a value. Own.
-abbrev pub felt_of : ℕ → Felt
-felt_of n = record { number = n % prime; in_field = mod-lt n (lit< tt) }
 
 -- The cell of an address and a value. Own.
 abbrev pub cell : Felt → Felt → Pair
@@ -23,7 +17,7 @@ cell addr value = record { addr = addr; value = value }
 
 -- The cells of values that lie one after another, the first one at this address. Addresses are counted modulo p. Own.
 unfoldable pub cells_from : ℕ → List Felt → List Pair
-cells_from address values = map (λ at. cell (felt_of at.0) at.1) (enumerate_from address values)
+cells_from address values = map (λ at. cell (felt at.0) at.1) (enumerate_from address values)
 
 -- The four cells that a row reads: its instruction, dst, op0 and op1. The whitepaper's memory accesses of a step.
 unfoldable pub row_cells : Row → List Pair

@@ -3,7 +3,7 @@ use Rattle.std.specs.Prelude.{◌+◌, ◌-◌, ◌<◌, ◌==◌, List, [], ◌
 use Rattle.casm_word.specs.Transition.{Memory}
 use Rattle.casm_word.specs.Run.{LegalRun}
 use Rattle.cpu_rows.specs.Columns.{columns}
-use Rattle.cpu_rows.specs.Steps.{HasSmallOffsets, HasCells, accesses as row_accesses}
+use Rattle.cpu_rows.specs.Steps.{HasSmallOffsets, HasCells, row_accesses}
 use Rattle.cpu_rows.specs.Equations.{equations, holds}
 use Rattle.sorted_lists.specs.Climbing.{climb}
 use Rattle.memory_columns.specs.Equations.{m1, m2}
@@ -14,7 +14,7 @@ use Rattle.public_input.specs.Statement.{Statement}
 use Rattle.table_file.specs.Tables.{Contents}
 use Rattle.constraint_checker.specs.declared.Constraint.TheVariants.{P, C, V, M, Q}
 use Rattle.constraint_checker.specs.Lists.{accesses, range_values}
-use Rattle.constraint_checker.specs.Constraints.{Condition, condition, are_one, pair_difference, value_difference, at_each, neighbours, rows_with_next, states, first_state, last_state}
+use Rattle.constraint_checker.specs.Constraints.{Condition, condition, are_one, pair_difference, range_difference, at_each, neighbours, rows_with_next, states, first_state, last_state}
 
 -- P1 to P5. Own.
 unfoldable pub start_conditions : Listing → Statement → Contents → List Condition
@@ -68,7 +68,7 @@ value_conditions tables =
 unfoldable pub range_conditions : Statement → Contents → List Condition
 range_conditions public tables =
     condition (Q 3) (length tables.sorted_range - 1) (is_number public.rc_max (last_number tables.sorted_range))
-    ∷ are_one (Q 4) (value_difference (range_values tables) tables.sorted_range)
+    ∷ are_one (Q 4) (range_difference (range_values tables) tables.sorted_range)
     ∷ []
 
 -- P1 to P7, C1 to C39 and V1. Own.

@@ -27,7 +27,7 @@ use table_file::Tables;
 ///
 /// First come P1 to P5, C1 to C39 by row and then by number, P6 and P7, and V1 by row. Then come M1 and M2 by row and
 /// then by number, M3, Q1, Q2 by row, Q3 and Q4. Where the tables are accepted, they describe a run of the program with
-/// this public input: `DescribeRun` in `specs/` says what that means.
+/// this public input: `DescribeRun` in `specs/` says what that means. Public input and tables have to be valid.
 pub fn check(
     alloc: Global,
     program: &Program,

@@ -5,7 +5,8 @@ ghost use Rattle.std.specs.List.{flat_map};
 ghost use Rattle.program_file.specs.Listing.{listing};
 ghost use Rattle.public_input.specs.Statement.{statement};
 ghost use Rattle.public_input.specs.Valid.{IsValid};
-ghost use Rattle.table_file.specs.Tables.{contents, most_rows, most_range_rows, most_fillers, most_range_fillers};
+ghost use Rattle.memory_columns.specs.Filling.{most_fillers};
+ghost use Rattle.table_file.specs.Tables.{contents, most_rows, most_range_rows, most_range_fillers};
 ghost use Rattle.constraint_checker.specs.Lists.{cells_from, row_cells, row_offsets, limbs, accesses, range_values};
 
 use cpu_rows::Row;
@@ -18,6 +19,8 @@ use table_file::Tables;
 
 /// Every access to the memory: the cells of each row, the range cells, the program's words, the public cells, and the
 /// fillers.
+///
+/// The public input is valid, and rows, range rows and fillers are within their limits.
 pub fn accesses(
     alloc: Global,
     program: &Program,
@@ -100,6 +103,8 @@ fn push_words(all: &mut Vec<Pair>, words: &[Felt]) -> Result<(), AllocError>
 }
 
 /// Every value of the range check: the offsets of each row, the limbs of each range cell, and the fillers.
+///
+/// Rows, range rows and fillers are within their limits.
 pub fn range_values(alloc: Global, tables: &Tables) -> Result<Vec<Felt>, AllocError>
     requires rows { length tables.now.rows.items ≤ most_rows }
     requires range_rows { length tables.now.range.items ≤ most_range_rows }

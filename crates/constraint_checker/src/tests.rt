@@ -203,7 +203,7 @@ fn found(rt: &impl Abort, alloc: Global, files: &Files) -> Result<String, AllocE
 }
 
 /// A small change of a run.
-#[derive(Clone, Copy)]
+#[derive(Clone, Copy, Debug)]
 enum Change {
     Steps(u32),
     RangeCount(u32),
@@ -347,7 +347,11 @@ fn the_first_constraint_that_fails_is_told(rt: HostRuntime) -> Result<(), Fail> 
         files.program = program(&rt, rt.alloc(), FOUR_STEPS.words, (start, end))?;
         apply_all(&mut files, changes)?;
         let found = found(&rt, rt.alloc(), &files)?;
-        assert_eq!(rt; found.as_str(), expected);
+        assert_eq!(rt;
+            found.as_str(),
+            expected,
+            "start {start}, end {end}, changes {changes:?}"
+        );
     }
     Ok(())
 }

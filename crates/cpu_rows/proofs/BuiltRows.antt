@@ -10,9 +10,8 @@ use Rattle.casm_word.specs.declared.WordFault.{WordFault}
 use Rattle.casm_word.specs.Word.{decoding}
 use Rattle.casm_word.specs.Transition.{Memory, Registers, dst_address, op0_address, op1_address, res, next}
 use Rattle.cpu_rows.specs.Columns.{Columns, IsInField, IsRow}
-use Rattle.cpu_rows.specs.Equations.{Equation, ◌⊙◌, equations, Holds, Meets}
+use Rattle.cpu_rows.specs.Equations.{Equation, ◌⊙◌, equations, EquationHolds, Meets, fault, failing_number}
 use Rattle.cpu_rows.specs.Steps.{HasFlags, IsStep, tilde_of, IsInverseOrZero, IsRes, row_of, IsRowOf}
-use Rattle.cpu_rows.specs.Equations.{fault}
 use Rattle.cpu_rows.proofs.RowOfStep.{Meets-from_row_of, HasSmallOffsets-from_row_of, HasCells-from_row_of, state_of_row_of, decoded, made_of_word}
 use Rattle.cpu_rows.proofs.StepOfRow.{IsStep-from_meets}
 use Rattle.std.proofs.Common.{length, take, drop}
@@ -21,9 +20,8 @@ use Rattle.std.proofs.lemmas.List.{length-map}
 use Rattle.cpu_rows.specs.declared.Row.{Row}
 use Rattle.cpu_rows.specs.Columns.{columns}
 use Rattle.cpu_rows.proofs.Faults.{fault-None, IsRow-columns}
-use Rattle.cpu_rows.proofs.Failing.{joined, first_failing-None}
+use Rattle.cpu_rows.proofs.Failing.{joined, failing_number-None}
 use Rattle.std.specs.Option.{option_or}
-use Rattle.cpu_rows.specs.Equations.{first_failing}
 
 -- ---- where the transition function has no value
 
@@ -128,18 +126,18 @@ accepted m s after r found is row below e none =
 
 -- ---- what is left to be tested of a row that was made
 
-pub made_row : (s after : Registers) (r : Columns) (n : ℕ) (w : Word) (d a b x : ℕ) → decoding n ≡ Ok w → IsRow r → IsRes w.flags d a b x → r ≡ row_of s n w d a b x → All Holds (take 24 (equations r after)) × All Holds (drop 31 (equations r after)) × HasFlags r w.flags
+pub made_row : (s after : Registers) (r : Columns) (n : ℕ) (w : Word) (d a b x : ℕ) → decoding n ≡ Ok w → IsRow r → IsRes w.flags d a b x → r ≡ row_of s n w d a b x → All EquationHolds (take 24 (equations r after)) × All EquationHolds (drop 31 (equations r after)) × HasFlags r w.flags
 made_row s after r n w d a b x e is column same =
     let k = decoded n w e in
-    let P : Columns → Type 0 = λ t. All Holds (take 24 (equations t after)) × All Holds (drop 31 (equations t after)) × HasFlags t w.flags in
+    let P : Columns → Type 0 = λ t. All EquationHolds (take 24 (equations t after)) × All EquationHolds (drop 31 (equations t after)) × HasFlags t w.flags in
     subst P (sym same) (made_of_word s after n d a b x w k.0 k.1 k.2 (subst IsInField same is.in_field) column)
 
-pub fault-made : (r : Columns) (after : Registers) (found : Option ℕ) → All Holds (take 24 (equations r after)) → All Holds (drop 31 (equations r after)) → found ≡ first_failing (slice_range (equations r after) 24 31) → found ≡ fault r after
+pub fault-made : (r : Columns) (after : Registers) (found : Option ℕ) → All EquationHolds (take 24 (equations r after)) → All EquationHolds (drop 31 (equations r after)) → found ≡ failing_number (slice_range (equations r after) 24 31) → found ≡ fault r after
 unfolding equations fault
 fault-made r after found first last e =
     let es : List Equation = equations r after in
-    let none_first : None ≡ first_failing (take 24 es) = sym ((first_failing-None (take 24 es)).1 first) in
-    let none_last : None ≡ first_failing (drop 31 es) = sym ((first_failing-None (drop 31 es)).1 last) in
+    let none_first : None ≡ failing_number (take 24 es) = sym ((failing_number-None (take 24 es)).1 first) in
+    let none_last : None ≡ failing_number (drop 31 es) = sym ((failing_number-None (drop 31 es)).1 last) in
     joined found None found (take 24 es) (drop 24 es) refl none_first
     (joined found found None (slice_range es 24 31) (drop 31 es) (sym (option_or-None found)) e none_last)
   where

@@ -10,7 +10,7 @@ use Rattle.goldilocks.proofs.FieldLaws.{flag_from_product, field_sub_below}
 use Rattle.casm_word.specs.declared.Flags.{Flags}
 use Rattle.casm_word.specs.Transition.{Registers}
 use Rattle.cpu_rows.specs.Columns.{Columns, values, IsInField}
-use Rattle.cpu_rows.specs.Equations.{◌⊖◌, ◌⊙◌, ◌≐◌, C, flag, equations, Holds}
+use Rattle.cpu_rows.specs.Equations.{◌⊖◌, ◌⊙◌, ◌≐◌, C, flag, equations, EquationHolds}
 use Rattle.cpu_rows.specs.Steps.{zero_or_one, HasFlags}
 
 -- ---- numbers of the field
@@ -103,10 +103,10 @@ is_zero_or_one x low e =
     ]
 
 -- where the first fifteen equations hold, each flag is 0 or 1
-pub HasFlags-row_flags : (r : Columns) (after : Registers) → All Holds (take 15 (equations r after)) → HasFlags r (row_flags r)
-unfolding equations Holds
+pub HasFlags-row_flags : (r : Columns) (after : Registers) → All EquationHolds (take 15 (equations r after)) → HasFlags r (row_flags r)
+unfolding equations EquationHolds
 HasFlags-row_flags r after all =
-    let h : (k : ℕ) → k < 15 → Holds (get_or (take 15 (equations r after)) k (C 0 (0 ≐ 0))) = λ k below. all k (C 0 (0 ≐ 0)) below in
+    let h : (k : ℕ) → k < 15 → EquationHolds (get_or (take 15 (equations r after)) k (C 0 (0 ≐ 0))) = λ k below. all k (C 0 (0 ≐ 0)) below in
     record {
       dst_fp = is_zero_or_one (flag r 0) (flag_low r 0) (h 0 (lit< tt));
       op0_fp = is_zero_or_one (flag r 1) (flag_low r 1) (h 1 (lit< tt));
@@ -131,8 +131,8 @@ unfolding field_mul field_sub
 flag_product x true e = rw e refl
 flag_product x false e = rw e refl
 
-pub first_fifteen-HasFlags : (r : Columns) (after : Registers) (f : Flags) → HasFlags r f → All Holds (take 15 (equations r after))
-unfolding equations Holds
+pub first_fifteen-HasFlags : (r : Columns) (after : Registers) (f : Flags) → HasFlags r f → All EquationHolds (take 15 (equations r after))
+unfolding equations EquationHolds
 first_fifteen-HasFlags r after f has =
-    All-from_recursion Holds (take 15 (equations r after))
+    All-from_recursion EquationHolds (take 15 (equations r after))
     (flag_product (flag r 0) f.dst_fp has.dst_fp, (flag_product (flag r 1) f.op0_fp has.op0_fp, (flag_product (flag r 2) f.op1_imm has.op1_imm, (flag_product (flag r 3) f.op1_fp has.op1_fp, (flag_product (flag r 4) f.op1_ap has.op1_ap, (flag_product (flag r 5) f.res_add has.res_add, (flag_product (flag r 6) f.res_mul has.res_mul, (flag_product (flag r 7) f.pc_abs has.pc_abs, (flag_product (flag r 8) f.pc_rel has.pc_rel, (flag_product (flag r 9) f.pc_jnz has.pc_jnz, (flag_product (flag r 10) f.ap_add has.ap_add, (flag_product (flag r 11) f.ap_add1 has.ap_add1, (flag_product (flag r 12) f.op_call has.op_call, (flag_product (flag r 13) f.op_ret has.op_ret, (flag_product (flag r 14) f.op_assert has.op_assert, tt)))))))))))))))

@@ -10,28 +10,28 @@ use Rattle.casm_word.specs.declared.Shape.TheVariants.{Op1, Res, Pc, Opcode, ApB
 use Rattle.casm_word.specs.Word.{breaks, shapes, first_broken}
 use Rattle.casm_word.specs.Transition.{Registers}
 use Rattle.cpu_rows.specs.Columns.{Columns}
-use Rattle.cpu_rows.specs.Equations.{Equation, ◌≐◌, C, equations, Holds, holds, first_failing}
+use Rattle.cpu_rows.specs.Equations.{Equation, ◌≐◌, C, equations, EquationHolds, holds, failing_number}
 use Rattle.cpu_rows.specs.Steps.{HasFlags, equation_of}
 use Rattle.cpu_rows.proofs.Choices.{at_most_one, two_of_turned, not_both, not_with_either, not_with_any}
 use Rattle.cpu_rows.proofs.EachEquation.{row_flags, HasFlags-row_flags, first_fifteen-HasFlags}
 
 -- a shape and its equation, in front of others that agree
-step : (f : Flags) (s : Shape) (ss : List Shape) (e : Equation) (es : List Equation) → holds e ≡ not (breaks s f) → e.number ≡ equation_of s → option_map equation_of (find (λ s. breaks s f) ss) ≡ first_failing es → option_map equation_of (find (λ s. breaks s f) (s ∷ ss)) ≡ first_failing (e ∷ es)
-unfolding first_failing
+step : (f : Flags) (s : Shape) (ss : List Shape) (e : Equation) (es : List Equation) → holds e ≡ not (breaks s f) → e.number ≡ equation_of s → option_map equation_of (find (λ s. breaks s f) ss) ≡ failing_number es → option_map equation_of (find (λ s. breaks s f) (s ∷ ss)) ≡ failing_number (e ∷ es)
+unfolding failing_number
 step f s ss e es same name rest = by (breaks s f) (holds e) same
   where
     by : (b h : Bool) → h ≡ not b → option_map equation_of (if b then Some s else find (λ s. breaks s f) ss) ≡ option_map (λ e. e.number) (if not h then Some e else find (λ e. not (holds e)) es)
     by true h g = rw g (ap Some (sym name))
     by false h g = rw g rest
 
-none : (f : Flags) → option_map equation_of (find (λ s. breaks s f) []) ≡ first_failing []
-unfolding first_failing
+none : (f : Flags) → option_map equation_of (find (λ s. breaks s f) []) ≡ failing_number []
+unfolding failing_number
 none f = refl
 
 -- the least of the last eight equations that fails is that of the first broken shape
-pub first_broken-first_failing : (r : Columns) (after : Registers) (f : Flags) → HasFlags r f → option_map equation_of (first_broken f) ≡ first_failing (drop 31 (equations r after))
+pub first_broken-failing_number : (r : Columns) (after : Registers) (f : Flags) → HasFlags r f → option_map equation_of (first_broken f) ≡ failing_number (drop 31 (equations r after))
 unfolding first_broken breaks equations holds
-first_broken-first_failing r after f has =
+first_broken-failing_number r after f has =
     let es : List Equation = equations r after in
     let e : ℕ → Equation = λ k. get_or es k (C 0 (0 ≐ 0)) in
     step f Op1 (drop 1 shapes) (e 31) (drop 32 es) (rw (has.op1_imm, has.op1_ap, has.op1_fp) (at_most_one f.op1_imm f.op1_ap f.op1_fp ∙ ap not (two_of_turned f.op1_imm f.op1_ap f.op1_fp))) refl
@@ -44,7 +44,7 @@ first_broken-first_failing r after f has =
     (step f CallAp (drop 8 shapes) (e 38) (drop 39 es) (rw (has.op_call, has.ap_add, has.ap_add1) (not_with_either f.op_call f.ap_add f.ap_add1)) refl (none f))))))))
 
 -- the first fifteen equations hold exactly where each flag is 0 or 1
-pub flags-first_fifteen : (r : Columns) (after : Registers) → All Holds (take 15 (equations r after)) ↔ ((f : Flags) × HasFlags r f)
+pub flags-first_fifteen : (r : Columns) (after : Registers) → All EquationHolds (take 15 (equations r after)) ↔ ((f : Flags) × HasFlags r f)
 flags-first_fifteen r after = (
   (λ h. (row_flags r, HasFlags-row_flags r after h)),
   (λ p. first_fifteen-HasFlags r after p.0 p.1),

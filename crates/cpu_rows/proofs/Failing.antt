@@ -17,7 +17,7 @@ use Rattle.casm_word.specs.Word.{breaks}
 use Rattle.casm_word.specs.Transition.{Registers}
 use Rattle.cpu_rows.specs.Columns.{Columns, numbers}
 use Rattle.cpu_rows.proofs.EachEquation.{flag_low, flag_product}
-use Rattle.cpu_rows.specs.Equations.{Equation, ◌⊕◌, ◌⊖◌, ◌⊙◌, ◌≐◌, C, flag, equations, Holds, holds, first_failing, IsLeastFailing}
+use Rattle.cpu_rows.specs.Equations.{Equation, ◌⊕◌, ◌⊖◌, ◌⊙◌, ◌≐◌, C, flag, equations, EquationHolds, holds, failing_number, IsLeastFailing}
 use Rattle.cpu_rows.specs.Steps.{zero_or_one, equation_of}
 use Rattle.cpu_rows.proofs.Numbers.{number_at}
 
@@ -39,12 +39,12 @@ found-append {X} g p (x ∷ xs) ys = by (p x) (found-append g p xs ys)
 
 -- ---- equations
 
-pub joined : (found first second : Option ℕ) (es gs : List Equation) → found ≡ option_or first second → first ≡ first_failing es → second ≡ first_failing gs → found ≡ first_failing (es ++ gs)
-unfolding first_failing
+pub joined : (found first second : Option ℕ) (es gs : List Equation) → found ≡ option_or first second → first ≡ failing_number es → second ≡ failing_number gs → found ≡ failing_number (es ++ gs)
+unfolding failing_number
 joined found first second es gs e p q = e ∙ (rw (p, q) refl ∙ sym (found-append (λ (e : Equation). e.number) (λ e. not (holds e)) es gs))
 
 -- an equation whose sides are known in another form
-pub unmet_is : (found : Option ℕ) (k l r l' r' : ℕ) → found ≡ first_failing (C k (l ≐ r) ∷ []) → l ≡ l' → r ≡ r' → found ≡ first_failing (C k (l' ≐ r') ∷ [])
+pub unmet_is : (found : Option ℕ) (k l r l' r' : ℕ) → found ≡ failing_number (C k (l ≐ r) ∷ []) → l ≡ l' → r ≡ r' → found ≡ failing_number (C k (l' ≐ r') ∷ [])
 unmet_is found k l r l' r' e p q = e ∙ rw (p, q) refl
 
 -- ---- shapes
@@ -87,8 +87,8 @@ no_flag x low above h =
     ]
 
 -- the first that fails, by its place
-failing_at : (es : List Equation) (j : ℕ) (d : Equation) → j < length es → ((k : ℕ) → k < j → Holds (get_or es k d)) → (Holds (get_or es j d) → ⊥) → first_failing es ≡ Some (get_or es j d).number
-unfolding first_failing holds Holds
+failing_at : (es : List Equation) (j : ℕ) (d : Equation) → j < length es → ((k : ℕ) → k < j → EquationHolds (get_or es k d)) → (EquationHolds (get_or es j d) → ⊥) → failing_number es ≡ Some (get_or es j d).number
+unfolding failing_number holds EquationHolds
 failing_at [] j d below before here = absurd (omega arith)
 failing_at (e ∷ es) zero d below before here =
     elim (eqb_tells e.left e.right) [ inl z ↦ absurd (here z.1) | inr z ↦ rw z.0 refl ]
@@ -106,8 +106,8 @@ fifteen r after d =
     below_more P 14 (below_more P 13 (below_more P 12 (below_more P 11 (below_more P 10 (below_more P 9 (below_more P 8 (below_more P 7 (below_more P 6 (below_more P 5 (below_more P 4 (below_more P 3 (below_more P 2 (below_more P 1 (below_more P 0 (below_none P) refl) refl) refl) refl) refl) refl) refl) refl) refl) refl) refl) refl) refl) refl) refl
 
 -- a flag that is no flag, behind others that are
-pub bad_flag : (r : Columns) (after : Registers) (set : List Bool) (j : ℕ) → j < 15 → ((k : ℕ) → k < j → flag r k ≡ zero_or_one (get_or set k false)) → 1 < flag r j → first_failing (take 15 (equations r after)) ≡ Some (j + 1)
-unfolding Holds equations
+pub bad_flag : (r : Columns) (after : Registers) (set : List Bool) (j : ℕ) → j < 15 → ((k : ℕ) → k < j → flag r k ≡ zero_or_one (get_or set k false)) → 1 < flag r j → failing_number (take 15 (equations r after)) ≡ Some (j + 1)
+unfolding EquationHolds equations
 bad_flag r after set j below before above =
     let d : Equation = C 0 (0 ≐ 0) in
     let here : get_or (take 15 (equations r after)) j d ≡ C (j + 1) (flag r j ⊙ (flag r j ⊖ 1) ≐ 0) = fifteen r after d j below in
@@ -135,16 +135,16 @@ some_is_none : {k : ℕ} → Some k ≡ None → ⊥
 some_is_none h = cc
 
 -- none fails exactly where each holds
-pub first_failing-None : (es : List Equation) → (first_failing es ≡ None) ↔ All Holds es
-unfolding first_failing holds Holds
-first_failing-None es = ((λ e. All-from_recursion Holds es (to es e)), (λ h. from es (recursion_from_All Holds es h)))
+pub failing_number-None : (es : List Equation) → (failing_number es ≡ None) ↔ All EquationHolds es
+unfolding failing_number holds EquationHolds
+failing_number-None es = ((λ e. All-from_recursion EquationHolds es (to es e)), (λ h. from es (recursion_from_All EquationHolds es h)))
   where
-    to : (es : List Equation) → option_map (λ e. e.number) (find (λ e. not (holds e)) es) ≡ None → AllByRecursion Holds es
+    to : (es : List Equation) → option_map (λ e. e.number) (find (λ e. not (holds e)) es) ≡ None → AllByRecursion EquationHolds es
     to [] e = tt
     to (x ∷ xs) e =
         elim (eqb_tells x.left x.right) [ inl z ↦ (z.1, to xs (rw z.0 at e)) | inr z ↦ absurd (some_is_none (rw z.0 at e)) ]
 
-    from : (es : List Equation) → AllByRecursion Holds es → option_map (λ e. e.number) (find (λ e. not (holds e)) es) ≡ None
+    from : (es : List Equation) → AllByRecursion EquationHolds es → option_map (λ e. e.number) (find (λ e. not (holds e)) es) ≡ None
     from [] h = refl
     from (x ∷ xs) h =
         elim (eqb_tells x.left x.right) [ inl z ↦ rw z.0 (from xs h.1) | inr z ↦ absurd (z.1 h.0) ]
@@ -163,29 +163,29 @@ numbered_above n (e ∷ es) h = (omega (arith, h.0), above es (numbered_above (n
     above (g ∷ gs) k = (omega (arith, k.0), above gs k.1)
 
 -- the first that fails is the least, where the numbers ascend
-pub IsLeastFailing-from_first : (n : ℕ) (es : List Equation) (k : ℕ) → IsNumberedFrom n es → first_failing es ≡ Some k → IsLeastFailing es k
-unfolding first_failing holds Holds
+pub IsLeastFailing-from_first : (n : ℕ) (es : List Equation) (k : ℕ) → IsNumberedFrom n es → failing_number es ≡ Some k → IsLeastFailing es k
+unfolding failing_number holds EquationHolds
 IsLeastFailing-from_first n [] k h e = absurd (some_is_none (sym e))
 IsLeastFailing-from_first n (x ∷ xs) k h e =
     elim (eqb_tells x.left x.right) [
       | inl z ↦
           let rest : IsLeastFailing xs k = IsLeastFailing-from_first (n + 1) xs k h.1 (rw z.0 at e) in
-          let P : Equation → Type 0 = λ e. (e.number ≡ k) × (Holds e → ⊥) in
+          let P : Equation → Type 0 = λ e. (e.number ≡ k) × (EquationHolds e → ⊥) in
           record {
             fails = Any-cons P x xs rest.fails;
-            lesser = All-cons (λ e. e.number < k → Holds e) x xs (λ _. z.1) rest.lesser;
+            lesser = All-cons (λ e. e.number < k → EquationHolds e) x xs (λ _. z.1) rest.lesser;
           }
       | inr z ↦
           let same : Some x.number ≡ Some k = rw z.0 at e in
           let number : x.number ≡ k = cc in
-          let P : Equation → Type 0 = λ e. (e.number ≡ k) × (Holds e → ⊥) in
+          let P : Equation → Type 0 = λ e. (e.number ≡ k) × (EquationHolds e → ⊥) in
           record {
             fails = Any-here P x xs (number, z.1);
-            lesser = All-cons (λ e. e.number < k → Holds e) x xs (λ below. absurd (omega arith)) (All-from_recursion (λ e. e.number < k → Holds e) xs (none_below (omega arith) xs (numbered_above (n + 1) xs h.1)));
+            lesser = All-cons (λ e. e.number < k → EquationHolds e) x xs (λ below. absurd (omega arith)) (All-from_recursion (λ e. e.number < k → EquationHolds e) xs (none_below (omega arith) xs (numbered_above (n + 1) xs h.1)));
           }
     ]
   where
-    none_below : k ≡ n → (gs : List Equation) → AllByRecursion (λ e. n + 1 ≤ e.number) gs → AllByRecursion (λ e. e.number < k → Holds e) gs
+    none_below : k ≡ n → (gs : List Equation) → AllByRecursion (λ e. n + 1 ≤ e.number) gs → AllByRecursion (λ e. e.number < k → EquationHolds e) gs
     none_below same [] a = tt
     none_below same (g ∷ gs) a = ((λ below. absurd (omega (arith, a.0))), none_below same gs a.1)
 

@@ -10,10 +10,10 @@ use Rattle.casm_word.specs.declared.State.{State}
 use Rattle.casm_word.specs.Transition.{Registers, registers}
 use Rattle.cpu_rows.specs.declared.Row.{Row}
 use Rattle.cpu_rows.specs.Columns.{Columns, columns, numbers, values, IsRow}
-use Rattle.cpu_rows.specs.Equations.{Equation, equations, Meets, first_failing, fault, IsLeastFailing}
+use Rattle.cpu_rows.specs.Equations.{Equation, equations, Meets, failing_number, fault, IsLeastFailing}
 use Rattle.cpu_rows.specs.Steps.{HasFlags, HasSmallOffsets, IsStep}
 use Rattle.cpu_rows.proofs.EachEquation.{first_fifteen-HasFlags}
-use Rattle.cpu_rows.proofs.Failing.{joined, first_failing-None, IsNumberedFrom, IsLeastFailing-from_first, numbered-at}
+use Rattle.cpu_rows.proofs.Failing.{joined, failing_number-None, IsNumberedFrom, IsLeastFailing-from_first, numbered-at}
 use Rattle.cpu_rows.proofs.StepOfRow.{IsStep-from_meets}
 
 -- the numbers of a row are numbers of the field
@@ -43,23 +43,23 @@ unfolding equations
 names r after d = (refl, (λ k below. numbered-at 1 (equations r after) d (numbered r after) k below ∙ add_comm 1 k))
 
 -- a flag that is no flag decides
-pub fault-no_flags : (r : Columns) (after : Registers) (k : ℕ) → first_failing (take 15 (equations r after)) ≡ Some k → fault r after ≡ Some k
+pub fault-no_flags : (r : Columns) (after : Registers) (k : ℕ) → failing_number (take 15 (equations r after)) ≡ Some k → fault r after ≡ Some k
 unfolding equations fault
 fault-no_flags r after k e =
     let es : List Equation = equations r after in
-    sym (joined (Some k) (Some k) (first_failing (drop 15 es)) (take 15 es) (drop 15 es) refl (sym e) refl)
+    sym (joined (Some k) (Some k) (failing_number (drop 15 es)) (take 15 es) (drop 15 es) refl (sym e) refl)
 
 -- where there are flags, the other equations decide
-pub fault-flags : (r : Columns) (after : Registers) (f : Flags) → HasFlags r f → first_failing (drop 15 (equations r after)) ≡ fault r after
+pub fault-flags : (r : Columns) (after : Registers) (f : Flags) → HasFlags r f → failing_number (drop 15 (equations r after)) ≡ fault r after
 unfolding equations fault
 fault-flags r after f has =
     let es : List Equation = equations r after in
-    let none : first_failing (take 15 es) ≡ None = (first_failing-None (take 15 es)).1 (first_fifteen-HasFlags r after f has) in
-    joined (first_failing (drop 15 es)) None (first_failing (drop 15 es)) (take 15 es) (drop 15 es) refl (sym none) refl
+    let none : failing_number (take 15 es) ≡ None = (failing_number-None (take 15 es)).1 (first_fifteen-HasFlags r after f has) in
+    joined (failing_number (drop 15 es)) None (failing_number (drop 15 es)) (take 15 es) (drop 15 es) refl (sym none) refl
 
 pub fault-None : (r : Columns) (after : Registers) → (fault r after ≡ None) ↔ Meets r after
 unfolding fault Meets
-fault-None r after = first_failing-None (equations r after)
+fault-None r after = failing_number-None (equations r after)
 
 -- ---- the clauses, of an answer that is the fault
 

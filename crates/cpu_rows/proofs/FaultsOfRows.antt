@@ -15,7 +15,7 @@ use Rattle.casm_word.proofs.Runs.{legal_run-from_steps}
 use Rattle.cpu_rows.specs.declared.Row.{Row}
 use Rattle.cpu_rows.specs.Columns.{Columns, columns, state_of}
 use Rattle.cpu_rows.specs.Equations.{Meets, fault}
-use Rattle.cpu_rows.specs.Steps.{HasSmallOffsets, HasCells, accesses, IsStep}
+use Rattle.cpu_rows.specs.Steps.{HasSmallOffsets, HasCells, row_accesses, IsStep}
 use Rattle.cpu_rows.proofs.Faults.{fault-None}
 use Rattle.cpu_rows.specs.Table.{states_of, with_next, faults}
 
@@ -79,13 +79,13 @@ abbrev pub IsStepAt : List Columns → Registers → ℕ → Type 0
 IsStepAt rows last k = (d : Columns) → HasSmallOffsets (get_or rows k d) → IsStep (get_or rows k d) (get_or (states_of rows last) (k + 1) last)
 
 -- rows that are all steps are a run
-pub run_of_steps : (rows : List Columns) (last : Registers) (d : Columns) → 0 < length rows → ((k : ℕ) → k < length rows → IsStepAt rows last k) → All HasSmallOffsets rows → (m : Memory) → All (λ r. HasCells m (accesses r)) rows → LegalRun m (states_of rows last)
+pub run_of_steps : (rows : List Columns) (last : Registers) (d : Columns) → 0 < length rows → ((k : ℕ) → k < length rows → IsStepAt rows last k) → All HasSmallOffsets rows → (m : Memory) → All (λ r. HasCells m (row_accesses r)) rows → LegalRun m (states_of rows last)
 run_of_steps rows last d some steps small m cells =
     legal_run-from_steps m (states_of rows last) last (omega (arith, length-states_of rows last)) (λ k h.
     let inside : k < length rows = omega (arith, length-states_of rows last) in
     let step : next m (state_of (get_or rows k d)) ≡ Some (get_or (states_of rows last) (k + 1) last) =
     (steps k inside d (All-get_or HasSmallOffsets rows k d inside small)).step m
-    (All-get_or (λ r. HasCells m (accesses r)) rows k d inside cells) in
+    (All-get_or (λ r. HasCells m (row_accesses r)) rows k d inside cells) in
     rw (get_or-states_of rows last k d last inside) step)
 
 -- ---- the same of a list of rows as the code has them
@@ -132,6 +132,6 @@ step-of_row rows last i row after h e p step d =
     get_or_default (map columns rows) i d (columns row) inside ∙ (get_or-map columns rows i row ∙ sym (ap columns e)) in
     rw (same, ← p) step
 
-pub run_in : (rows : List Row) (last : Registers) → 0 < length rows → ((k : ℕ) → k < length rows → IsStepAt (map columns rows) last k) → All HasSmallOffsets (map columns rows) → (m : Memory) → All (λ r. HasCells m (accesses r)) (map columns rows) → LegalRun m (states_of (map columns rows) last)
+pub run_in : (rows : List Row) (last : Registers) → 0 < length rows → ((k : ℕ) → k < length rows → IsStepAt (map columns rows) last k) → All HasSmallOffsets (map columns rows) → (m : Memory) → All (λ r. HasCells m (row_accesses r)) (map columns rows) → LegalRun m (states_of (map columns rows) last)
 run_in rows last some steps small m cells =
     run_of_steps (map columns rows) last nowhere (omega (arith, length-map rows columns)) (λ k h. steps k (omega (arith, h, length-map rows columns))) small m cells

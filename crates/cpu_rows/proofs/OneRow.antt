@@ -9,8 +9,8 @@ use Rattle.casm_word.specs.declared.Word.{Word}
 use Rattle.casm_word.specs.Word.{two_of, flags_of, word_of}
 use Rattle.casm_word.specs.Transition.{Memory, Registers, dst_address, op0_address, op1_address, res, next}
 use Rattle.cpu_rows.specs.Columns.{Columns, values, state_of, IsInField}
-use Rattle.cpu_rows.specs.Equations.{◌⊕◌, ◌⊖◌, ◌⊙◌, ◌≐◌, C, flag, equations, Holds, Meets}
-use Rattle.cpu_rows.specs.Steps.{zero_or_one, HasFlags, accesses, tilde_of, row_of, Tells, GoesOnBehind, with_res, offsets, IsStep}
+use Rattle.cpu_rows.specs.Equations.{◌⊕◌, ◌⊖◌, ◌⊙◌, ◌≐◌, C, flag, equations, EquationHolds, Meets}
+use Rattle.cpu_rows.specs.Steps.{zero_or_one, HasFlags, row_accesses, tilde_of, row_of, Tells, GoesOnBehind, with_res, offsets, IsStep}
 use Rattle.cpu_rows.proofs.Choices.{gap_is_zero, gap_of_equal, c22_holds}
 use Rattle.cpu_rows.proofs.EachEquation.{front, in_front, in_back, row_flags, dst_low, op1_low, res_low, t1_low}
 use Rattle.cpu_rows.proofs.StepOfRow.{IsStep-from_meets, HasFlags-from_meets, nth, parts, flags_is, word, word_is, tilde_is, dst_address_is, op0_address_is, op1_address_is, res_is, cell, one_res, one_pc, jnz_alone, jnz_keeps_ap}
@@ -58,15 +58,15 @@ module _ (m : Memory) (s after : Registers) (r : Columns) (tells : Tells m s aft
   jnz_same = ap (λ (w : Word). w.flags.pc_jnz) word_same
 
   mul_at : r.mul ≡ r.op0 ⊙ r.op1
-  unfolding equations Holds
+  unfolding equations EquationHolds
   mul_at = nth r after f has tells.meets 20 (lit< tt)
 
   t0_at : r.t0 ≡ zero_or_one (word_of r.inst).flags.pc_jnz ⊙ r.dst
-  unfolding equations Holds
+  unfolding equations EquationHolds
   t0_at = rw (jnz_same, ← has.pc_jnz) (nth r after f has tells.meets 22 (lit< tt))
 
   t1_at : r.t1 ≡ r.t0 ⊙ r.res
-  unfolding equations Holds
+  unfolding equations EquationHolds
   t1_at = nth r after f has tells.meets 23 (lit< tt)
 
   -- the row is the row of a step, with its own number in the column res
@@ -85,25 +85,25 @@ module _ (m : Memory) (s after : Registers) (r : Columns) (tells : Tells m s aft
       subst P tells.state as_row_of
 
   inst_cell : m s.pc ≡ Some r.inst
-  unfolding accesses state_of
+  unfolding row_accesses state_of
   inst_cell =
       let P : Registers → Type 0 = λ u. m u.pc ≡ Some r.inst in
       subst P tells.state (cell r after f has tells.meets low tells.offsets m 0 tells.cells (lit< tt))
 
   dst_cell : m (dst_address (word_of r.inst) s) ≡ Some r.dst
-  unfolding accesses
+  unfolding row_accesses
   dst_cell =
       let P : Registers → Type 0 = λ u. m (dst_address (word_of r.inst) u) ≡ Some r.dst in
       subst P tells.state (ap m dst_at ∙ cell r after f has tells.meets low tells.offsets m 1 tells.cells (lit< tt))
 
   op0_cell : m (op0_address (word_of r.inst) s) ≡ Some r.op0
-  unfolding accesses
+  unfolding row_accesses
   op0_cell =
       let P : Registers → Type 0 = λ u. m (op0_address (word_of r.inst) u) ≡ Some r.op0 in
       subst P tells.state (ap m op0_at ∙ cell r after f has tells.meets low tells.offsets m 2 tells.cells (lit< tt))
 
   op1_cell : m (op1_address (word_of r.inst) s r.op0) ≡ Some r.op1
-  unfolding accesses
+  unfolding row_accesses
   op1_cell =
       let P : Registers → Type 0 = λ u. m (op1_address (word_of r.inst) u r.op0) ≡ Some r.op1 in
       subst P tells.state (ap m op1_at ∙ cell r after f has tells.meets low tells.offsets m 3 tells.cells (lit< tt))
@@ -117,7 +117,7 @@ module _ (m : Memory) (s after : Registers) (r : Columns) (tells : Tells m s aft
       ∙ ap (λ g. res g r.op0 r.op1) (sym (flags_is r after f has tells.meets low tells.offsets))
 
   inverse_told : flag r 9 ≡ 1 → (GoesOnBehind r after → ⊥) → r.dst ⊙ r.res ≡ 1
-  unfolding equations Holds GoesOnBehind
+  unfolding equations EquationHolds GoesOnBehind
   inverse_told one elsewhere =
       let e : (r.t1 ⊖ 1) ⊙ (after.pc ⊖ r.pc ⊖ (1 ⊕ flag r 2)) ≡ 0 = rw one at (nth r after f has tells.meets 24 (lit< tt)) in
       let t0 : r.t0 ≡ r.dst = (rw one at (nth r after f has tells.meets 22 (lit< tt))) ∙ (field_one_mul r.dst ∙ mod-eq_of_lt (dst_low r low)) in
@@ -228,7 +228,7 @@ differ : (b : Bool) → b ≡ true → b ≡ false → ⊥
 differ b p q = cc
 
 module _ (m : Memory) (s after : Registers) (r : Columns) (tells : Tells m s after r) (behind : GoesOnBehind r after) (x : ℕ) (small : x < prime) where
-  n : (k : ℕ) → k < 39 → Holds (get_or (equations r after) k (C 0 (0 ≐ 0)))
+  n : (k : ℕ) → k < 39 → EquationHolds (get_or (equations r after) k (C 0 (0 ≐ 0)))
   n = nth r after (row_flags r) (has m s after r tells) tells.meets
 
   flags' : HasFlags r (row_flags r)
@@ -269,22 +269,22 @@ module _ (m : Memory) (s after : Registers) (r : Columns) (tells : Tells m s aft
   met_25 = ap (λ v. (r.t0 ⊙ x ⊖ flag r 9) ⊙ v) (gap_of_equal after.pc r.pc (1 ⊕ flag r 2) behind.1) ∙ field_mul_zero (r.t0 ⊙ x ⊖ flag r 9)
 
   met_26 : r.t0 ⊙ (after.pc ⊖ r.pc ⊖ r.op1) ⊕ (1 ⊖ flag r 9) ⊙ after.pc ⊖ ((1 ⊖ flag r 7 ⊖ flag r 8 ⊖ flag r 9) ⊙ (r.pc ⊕ (1 ⊕ flag r 2)) ⊕ flag r 7 ⊙ x ⊕ flag r 8 ⊙ (r.pc ⊕ x)) ≡ 0
-  unfolding equations Holds
+  unfolding equations EquationHolds
   met_26 =
       rw (abs_off, rel_off, field_zero_mul x, field_zero_mul (r.pc ⊕ x))
       (rw (abs_off, rel_off, field_zero_mul r.res, field_zero_mul (r.pc ⊕ r.res)) at (n 25 (lit< tt)))
 
   met_27 : after.ap ≡ r.ap ⊕ flag r 10 ⊙ x ⊕ flag r 11 ⊕ 2 ⊙ flag r 12
-  unfolding equations Holds
+  unfolding equations EquationHolds
   met_27 = rw (ap_add_off, field_zero_mul x) (rw (ap_add_off, field_zero_mul r.res) at (n 26 (lit< tt)))
 
   met_31 : flag r 14 ⊙ (r.dst ⊖ x) ≡ 0
   met_31 = ap (λ v. v ⊙ (r.dst ⊖ x)) assert_off ∙ field_zero_mul (r.dst ⊖ x)
 
   meets' : Meets (with_res r x) after
-  unfolding Meets equations Holds with_res flag
+  unfolding Meets equations EquationHolds with_res flag
   meets' =
-      All-from_recursion Holds (equations (with_res r x) after)
+      All-from_recursion EquationHolds (equations (with_res r x) after)
       (n 0 (lit< tt), (n 1 (lit< tt), (n 2 (lit< tt), (n 3 (lit< tt), (n 4 (lit< tt), (n 5 (lit< tt), (n 6 (lit< tt), (n 7 (lit< tt), (n 8 (lit< tt), (n 9 (lit< tt), (n 10 (lit< tt), (n 11 (lit< tt), (n 12 (lit< tt), (n 13 (lit< tt), (n 14 (lit< tt), (n 15 (lit< tt), (n 16 (lit< tt), (n 17 (lit< tt), (n 18 (lit< tt), (n 19 (lit< tt), (n 20 (lit< tt), (met_22, (n 22 (lit< tt), (refl, (met_25, (met_26, (met_27, (n 27 (lit< tt), (n 28 (lit< tt), (n 29 (lit< tt), (met_31, (n 31 (lit< tt), (n 32 (lit< tt), (n 33 (lit< tt), (n 34 (lit< tt), (n 35 (lit< tt), (n 36 (lit< tt), (n 37 (lit< tt), (n 38 (lit< tt), tt)))))))))))))))))))))))))))))))))))))))
 
   below_prime : ℕ → Type 0
@@ -302,7 +302,7 @@ module _ (m : Memory) (s after : Registers) (r : Columns) (tells : Tells m s aft
 
   -- the row with any number in the column res tells the step too
   pub free_res : Tells m s after (with_res r x)
-  unfolding with_res state_of accesses offsets
+  unfolding with_res state_of row_accesses offsets
   free_res = record {
     row = record { sixteen = tells.row.sixteen; in_field = in_field' };
     next_pc = tells.next_pc;

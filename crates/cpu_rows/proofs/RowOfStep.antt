@@ -16,8 +16,8 @@ use Rattle.casm_word.specs.declared.WordFault.TheVariants.{HighBit}
 use Rattle.casm_word.specs.Word.{flags_of, word_of, two_of, breaks, first_broken, unless_broken, decoding}
 use Rattle.casm_word.specs.Transition.{Memory, Registers, size, dst_address, op0_address, op1_address, res, next_ap, next_fp, next_registers, has_return_pc, has_caller_fp, meets_assertion, next_by, next}
 use Rattle.cpu_rows.specs.Columns.{Columns, state_of, IsInField, IsRow}
-use Rattle.cpu_rows.specs.Equations.{◌⊕◌, ◌⊖◌, ◌⊙◌, flag, equations, Holds, Meets}
-use Rattle.cpu_rows.specs.Steps.{zero_or_one, HasFlags, HasCells, accesses, offsets, HasSmallOffsets, bits_from, tilde_of, IsInverseOrZero, IsRes, row_of, IsRowOf, Tells}
+use Rattle.cpu_rows.specs.Equations.{◌⊕◌, ◌⊖◌, ◌⊙◌, flag, equations, EquationHolds, Meets}
+use Rattle.cpu_rows.specs.Steps.{zero_or_one, HasFlags, HasCells, row_accesses, offsets, HasSmallOffsets, bits_from, tilde_of, IsInverseOrZero, IsRes, row_of, IsRowOf, Tells}
 use Rattle.cpu_rows.proofs.Choices.{one_of_two, one_of_four, moved_by_offset, size_of_flag, next_of_ap, next_of_fp, chosen_pc, c22_holds, c25_holds, c26_holds, t1_is_0, t1_is_1, tested_gap, tested_gap_of_sum, demanded, at_most_one, two_of_turned, not_both, not_with_either, not_with_any, same_pc, same_ap, same_assertion}
 use Rattle.cpu_rows.proofs.Bits.{sum_of_parts, flag_of_word}
 use Rattle.cpu_rows.proofs.EachEquation.{first_fifteen-HasFlags, ap_low, fp_low, dst_low, op0_low, op1_low, res_low}
@@ -158,9 +158,9 @@ module _ (s : Registers) (n d a b x : ℕ) (below : n < 2 ^ 63) (defined : IsUnb
       ∙ sym (one_of_four f.op1_imm f.op1_ap f.op1_fp s.pc s.ap s.fp a r.off_op1 defined.one_base))
 
   -- the last eight equations
-  met_shapes : (after : Registers) → All Holds (drop 31 (equations r after))
-  unfolding equations Holds row_of flags_of word_of
-  met_shapes after = All-from_recursion Holds (drop 31 (equations r after)) (rw (has_flags.op1_imm, has_flags.op1_ap, has_flags.op1_fp) (unbroken_back _ _ (at_most_one f.op1_imm f.op1_ap f.op1_fp) (two_of_turned f.op1_imm f.op1_ap f.op1_fp ∙ defined.one_base)), (rw (has_flags.res_add, has_flags.res_mul, has_flags.pc_jnz) (unbroken_back _ _ (at_most_one f.res_add f.res_mul f.pc_jnz) defined.one_res), (rw (has_flags.pc_abs, has_flags.pc_rel, has_flags.pc_jnz) (unbroken_back _ _ (at_most_one f.pc_abs f.pc_rel f.pc_jnz) defined.one_pc), (rw (has_flags.op_call, has_flags.op_ret, has_flags.op_assert) (unbroken_back _ _ (at_most_one f.op_call f.op_ret f.op_assert) defined.one_opcode), (rw (has_flags.ap_add, has_flags.ap_add1) (unbroken_back _ _ (not_both f.ap_add f.ap_add1) defined.one_ap), (rw (has_flags.pc_jnz, has_flags.op_call, has_flags.op_ret, has_flags.op_assert) (unbroken_back _ _ (not_with_any f.pc_jnz f.op_call f.op_ret f.op_assert) defined.jnz_alone), (rw (has_flags.pc_jnz, has_flags.ap_add) (unbroken_back _ _ (not_both f.pc_jnz f.ap_add) defined.jnz_keeps_ap), (rw (has_flags.op_call, has_flags.ap_add, has_flags.ap_add1) (unbroken_back _ _ (not_with_either f.op_call f.ap_add f.ap_add1) defined.call_keeps_ap), tt))))))))
+  met_shapes : (after : Registers) → All EquationHolds (drop 31 (equations r after))
+  unfolding equations EquationHolds row_of flags_of word_of
+  met_shapes after = All-from_recursion EquationHolds (drop 31 (equations r after)) (rw (has_flags.op1_imm, has_flags.op1_ap, has_flags.op1_fp) (unbroken_back _ _ (at_most_one f.op1_imm f.op1_ap f.op1_fp) (two_of_turned f.op1_imm f.op1_ap f.op1_fp ∙ defined.one_base)), (rw (has_flags.res_add, has_flags.res_mul, has_flags.pc_jnz) (unbroken_back _ _ (at_most_one f.res_add f.res_mul f.pc_jnz) defined.one_res), (rw (has_flags.pc_abs, has_flags.pc_rel, has_flags.pc_jnz) (unbroken_back _ _ (at_most_one f.pc_abs f.pc_rel f.pc_jnz) defined.one_pc), (rw (has_flags.op_call, has_flags.op_ret, has_flags.op_assert) (unbroken_back _ _ (at_most_one f.op_call f.op_ret f.op_assert) defined.one_opcode), (rw (has_flags.ap_add, has_flags.ap_add1) (unbroken_back _ _ (not_both f.ap_add f.ap_add1) defined.one_ap), (rw (has_flags.pc_jnz, has_flags.op_call, has_flags.op_ret, has_flags.op_assert) (unbroken_back _ _ (not_with_any f.pc_jnz f.op_call f.op_ret f.op_assert) defined.jnz_alone), (rw (has_flags.pc_jnz, has_flags.ap_add) (unbroken_back _ _ (not_both f.pc_jnz f.ap_add) defined.jnz_keeps_ap), (rw (has_flags.op_call, has_flags.ap_add, has_flags.ap_add1) (unbroken_back _ _ (not_with_either f.op_call f.ap_add f.ap_add1) defined.call_keeps_ap), tt))))))))
 
   module _ (low : IsInField r) (column : IsRes f d a b x) where
     res_is : f.pc_jnz ≡ false → x ≡ res f a b
@@ -168,11 +168,11 @@ module _ (s : Registers) (n d a b x : ℕ) (below : n < 2 ^ 63) (defined : IsUnb
     res_is j = when_false (IsInverseOrZero d x) (x ≡ res f a b) j column
 
     -- the first 24 equations
-    pub met_by_making : (after : Registers) → All Holds (take 24 (equations r after))
-    unfolding equations Holds row_of tilde_of flags_of word_of
+    pub met_by_making : (after : Registers) → All EquationHolds (take 24 (equations r after))
+    unfolding equations EquationHolds row_of tilde_of flags_of word_of
     met_by_making after =
-        All-append Holds (take 15 (equations r after)) (slice_range (equations r after) 15 24) (first_fifteen-HasFlags r after f has_flags)
-        (All-from_recursion Holds (slice_range (equations r after) 15 24) (last_is_0, (sum_of_parts n below, (met_18, (met_19, (met_20, (refl, (rw (has_flags.pc_jnz, has_flags.res_add, has_flags.res_mul) (c22_holds f.res_add f.res_mul f.pc_jnz a b x (res_low r low) (op1_low r low) defined.one_res res_is), (rw has_flags.pc_jnz refl, (refl, tt))))))))))
+        All-append EquationHolds (take 15 (equations r after)) (slice_range (equations r after) 15 24) (first_fifteen-HasFlags r after f has_flags)
+        (All-from_recursion EquationHolds (slice_range (equations r after) 15 24) (last_is_0, (sum_of_parts n below, (met_18, (met_19, (met_20, (refl, (rw (has_flags.pc_jnz, has_flags.res_add, has_flags.res_mul) (c22_holds f.res_add f.res_mul f.pc_jnz a b x (res_low r low) (op1_low r low) defined.one_res res_is), (rw has_flags.pc_jnz refl, (refl, tt))))))))))
 
     module _ (after : Registers) (goes_on : next_by f s d a b ≡ Some after) where
       met_demands : (has_return_pc f s a ≡ true) × (has_caller_fp f s d ≡ true) × (meets_assertion f d a b ≡ true) × (next_registers f s d a b ≡ after)
@@ -222,15 +222,15 @@ module _ (s : Registers) (n d a b x : ℕ) (below : n < 2 ^ 63) (defined : IsUnb
           let same = same_assertion f.op_call f.op_ret f.op_assert f.pc_jnz d x (res f a b) defined.jnz_alone res_is in
           rw has_flags.op_assert (is_0 _ (test ∙ (same ∙ met_demands.2)))
 
-      met_after : All Holds (slice_range (equations r after) 24 31)
-      unfolding equations Holds row_of flags_of word_of
-      met_after = All-from_recursion Holds (slice_range (equations r after) 24 31) (met_25, (rw (has_flags.pc_abs, has_flags.pc_rel, has_flags.pc_jnz, has_flags.op1_imm, size_is) (c26_holds f.pc_abs f.pc_rel f.pc_jnz d b x r.t0 after.pc s.pc (size f) (res_low r low) (dst_low r low) defined.one_pc refl pc_is), (rw (has_flags.ap_add, has_flags.ap_add1, has_flags.op_call) (ap_is ∙ sym (next_of_ap f.op_call f.ap_add f.ap_add1 s.ap x (ap_low r low) defined.one_ap defined.call_keeps_ap ∙ same_ap f.op_call f.ap_add f.ap_add1 f.pc_jnz s.ap x (res f a b) defined.jnz_keeps_ap res_is)), (rw (has_flags.op_ret, has_flags.op_call) (fp_is ∙ sym (next_of_fp f.op_call f.op_ret s.ap d s.fp (dst_low r low) (fp_low r low) (first_two f.op_call f.op_ret f.op_assert defined.one_opcode))), (met_29, (met_30, (met_31, tt)))))))
+      met_after : All EquationHolds (slice_range (equations r after) 24 31)
+      unfolding equations EquationHolds row_of flags_of word_of
+      met_after = All-from_recursion EquationHolds (slice_range (equations r after) 24 31) (met_25, (rw (has_flags.pc_abs, has_flags.pc_rel, has_flags.pc_jnz, has_flags.op1_imm, size_is) (c26_holds f.pc_abs f.pc_rel f.pc_jnz d b x r.t0 after.pc s.pc (size f) (res_low r low) (dst_low r low) defined.one_pc refl pc_is), (rw (has_flags.ap_add, has_flags.ap_add1, has_flags.op_call) (ap_is ∙ sym (next_of_ap f.op_call f.ap_add f.ap_add1 s.ap x (ap_low r low) defined.one_ap defined.call_keeps_ap ∙ same_ap f.op_call f.ap_add f.ap_add1 f.pc_jnz s.ap x (res f a b) defined.jnz_keeps_ap res_is)), (rw (has_flags.op_ret, has_flags.op_call) (fp_is ∙ sym (next_of_fp f.op_call f.op_ret s.ap d s.fp (dst_low r low) (fp_low r low) (first_two f.op_call f.op_ret f.op_assert defined.one_opcode))), (met_29, (met_30, (met_31, tt)))))))
 
       pub meets : Meets r after
       unfolding Meets equations
       meets =
-          All-append Holds (take 24 (equations r after)) (drop 24 (equations r after)) (met_by_making after)
-          (All-append Holds (slice_range (equations r after) 24 31) (drop 31 (equations r after)) met_after (met_shapes after))
+          All-append EquationHolds (take 24 (equations r after)) (drop 24 (equations r after)) (met_by_making after)
+          (All-append EquationHolds (slice_range (equations r after) 24 31) (drop 31 (equations r after)) met_after (met_shapes after))
 
 -- what the transition function looks at in the memory, one cell after the other
 goes_on : (m : Memory) (s after : Registers) (n : ℕ) (w : Word) (d a b : ℕ) → m s.pc ≡ Some n → decoding n ≡ Ok w → m (dst_address w s) ≡ Some d → m (op0_address w s) ≡ Some a → m (op1_address w s a) ≡ Some b → next m s ≡ next_by w.flags s d a b
@@ -267,12 +267,12 @@ HasSmallOffsets-from_row_of m s r row =
     subst HasSmallOffsets (sym row.columns) (offsets_of_word s r.inst r.dst r.op0 r.op1 r.res row.word d.0 d.1 d.2)
 
 -- and its cells are those of the memory
-pub HasCells-from_row_of : (m : Memory) (s : Registers) (r : Columns) → IsRowOf m s r → HasCells m (accesses r)
-unfolding accesses row_of
+pub HasCells-from_row_of : (m : Memory) (s : Registers) (r : Columns) → IsRowOf m s r → HasCells m (row_accesses r)
+unfolding row_accesses row_of
 HasCells-from_row_of m s r row =
-    let P : Columns → Type 0 = λ t. HasCells m (accesses t) in
+    let P : Columns → Type 0 = λ t. HasCells m (row_accesses t) in
     subst P (sym row.columns)
-    (All-from_recursion (λ (c : ℕ × ℕ). m c.0 ≡ Some c.1) (accesses (row_of s r.inst row.word r.dst r.op0 r.op1 r.res))
+    (All-from_recursion (λ (c : ℕ × ℕ). m c.0 ≡ Some c.1) (row_accesses (row_of s r.inst row.word r.dst r.op0 r.op1 r.res))
     (row.inst, (row.dst, (row.op0, (row.op1, tt)))))
 
 pub state_of_row_of : (m : Memory) (s : Registers) (r : Columns) → IsRowOf m s r → state_of r ≡ s
@@ -363,16 +363,16 @@ one_row_of m s a b p q =
 
 -- ---- the equations that a row meets by how it is made, whether or not there is a step
 
-pub made_of_word : (s after : Registers) (n d a b x : ℕ) (w : Word) → n < 2 ^ 63 → first_broken (flags_of n) ≡ None → word_of n ≡ w → IsInField (row_of s n w d a b x) → IsRes w.flags d a b x → All Holds (take 24 (equations (row_of s n w d a b x) after)) × All Holds (drop 31 (equations (row_of s n w d a b x) after)) × HasFlags (row_of s n w d a b x) w.flags
+pub made_of_word : (s after : Registers) (n d a b x : ℕ) (w : Word) → n < 2 ^ 63 → first_broken (flags_of n) ≡ None → word_of n ≡ w → IsInField (row_of s n w d a b x) → IsRes w.flags d a b x → All EquationHolds (take 24 (equations (row_of s n w d a b x) after)) × All EquationHolds (drop 31 (equations (row_of s n w d a b x) after)) × HasFlags (row_of s n w d a b x) w.flags
 unfolding word_of
 made_of_word s after n d a b x w below defined e =
-    let P : Word → Type 0 = λ v. IsInField (row_of s n v d a b x) → IsRes v.flags d a b x → All Holds (take 24 (equations (row_of s n v d a b x) after)) × All Holds (drop 31 (equations (row_of s n v d a b x) after)) × HasFlags (row_of s n v d a b x) v.flags in
+    let P : Word → Type 0 = λ v. IsInField (row_of s n v d a b x) → IsRes v.flags d a b x → All EquationHolds (take 24 (equations (row_of s n v d a b x) after)) × All EquationHolds (drop 31 (equations (row_of s n v d a b x) after)) × HasFlags (row_of s n v d a b x) v.flags in
     let u = IsUnbroken-from_first (flags_of n) defined in
     subst P e (λ low column. (met_by_making s n d a b x below u low column after, met_shapes s n d a b x below u after, has_flags s n d a b x below u))
 
-pub made : (m : Memory) (s after : Registers) (r : Columns) → IsInField r → (row : IsRowOf m s r) → All Holds (take 24 (equations r after)) × All Holds (drop 31 (equations r after)) × HasFlags r row.word.flags
+pub made : (m : Memory) (s after : Registers) (r : Columns) → IsInField r → (row : IsRowOf m s r) → All EquationHolds (take 24 (equations r after)) × All EquationHolds (drop 31 (equations r after)) × HasFlags r row.word.flags
 made m s after r low row =
     let w : Word = row.word in
     let d = decoded r.inst w row.decodes in
-    let P : Columns → Type 0 = λ t. All Holds (take 24 (equations t after)) × All Holds (drop 31 (equations t after)) × HasFlags t w.flags in
+    let P : Columns → Type 0 = λ t. All EquationHolds (take 24 (equations t after)) × All EquationHolds (drop 31 (equations t after)) × HasFlags t w.flags in
     subst P (sym row.columns) (made_of_word s after r.inst r.dst r.op0 r.op1 r.res w d.0 d.1 d.2 (subst IsInField row.columns low) row.res)

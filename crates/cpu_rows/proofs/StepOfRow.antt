@@ -1,5 +1,5 @@
--- A row that meets the equations is a step: its flags and offsets are those of its word, its addresses and what it
--- computes those of the transition function, and the next state is that one's.
+-- A row that meets the equations is a step. Its flags and offsets are those of its word. Its addresses and what it
+-- computes are those of the transition function, and the next state is that one's.
 use Rattle.std.proofs.Common.{◌≡◌, ℕ, ◌+◌, ◌*◌, ◌%◌, ◌^◌, ◌<◌, ◌∙◌, Bool, true, false, not, ◌&&◌, ◌||◌, ◌==◌, nat_lt, length, get_or, Some, None, Ok, refl, sym, ap, arith, lit<, lit≤, below_none, below_more}
 use Rattle.std.proofs.lemmas.List.{ext_get_or}
 use Rattle.std.specs.Bool.{if◌then◌else◌}
@@ -14,8 +14,8 @@ use Rattle.casm_word.specs.declared.Word.{Word}
 use Rattle.casm_word.specs.Word.{bit, flags_of, word_of, two_of, breaks, first_broken, decoding}
 use Rattle.casm_word.specs.Transition.{Memory, Registers, size, dst_address, op0_address, op1_address, res, next_pc, next_ap, next_fp, next_registers, has_return_pc, has_caller_fp, meets_assertion, next_by, next}
 use Rattle.cpu_rows.specs.Columns.{Columns, state_of, IsInField}
-use Rattle.cpu_rows.specs.Equations.{◌⊕◌, ◌⊖◌, ◌⊙◌, ◌≐◌, C, flag, equations, Holds, Meets}
-use Rattle.cpu_rows.specs.Steps.{zero_or_one, HasFlags, HasWord, HasCells, accesses, offsets, HasSmallOffsets, IsStep, bits_from, tilde_of}
+use Rattle.cpu_rows.specs.Equations.{◌⊕◌, ◌⊖◌, ◌⊙◌, ◌≐◌, C, flag, equations, EquationHolds, Meets}
+use Rattle.cpu_rows.specs.Steps.{zero_or_one, HasFlags, HasWord, HasCells, row_accesses, offsets, HasSmallOffsets, IsStep, bits_from, tilde_of}
 use Rattle.cpu_rows.proofs.Choices.{one_of_two, one_of_four, moved_by_offset, one_of_three, size_of_flag, next_of_ap, next_of_fp, pc_after, tested_gap, tested_gap_of_sum, demanded, at_most_one, two_of_turned, not_both, not_with_either, not_with_any, same_pc, same_ap, same_assertion}
 use Rattle.cpu_rows.proofs.Bits.{taken_apart, bit_of_word, rest_of_word, put_together, parts_of_word}
 use Rattle.cpu_rows.proofs.EachEquation.{ap_low, fp_low, dst_low, op0_low, op1_low, res_low, tilde_low, HasFlags-row_flags, row_flags}
@@ -34,42 +34,42 @@ first_two true false c h = refl
 first_two false b c h = refl
 
 module _ (r : Columns) (after : Registers) (f : Flags) (has : HasFlags r f) (meets : Meets r after) where
-  pub nth : (k : ℕ) → k < 39 → Holds (get_or (equations r after) k (C 0 (0 ≐ 0)))
+  pub nth : (k : ℕ) → k < 39 → EquationHolds (get_or (equations r after) k (C 0 (0 ≐ 0)))
   unfolding equations Meets
-  nth k h = All-get_or Holds (equations r after) k (C 0 (0 ≐ 0)) h meets
+  nth k h = All-get_or EquationHolds (equations r after) k (C 0 (0 ≐ 0)) h meets
 
   -- ---- the shapes
 
   one_base : two_of f.op1_imm f.op1_ap f.op1_fp ≡ false
-  unfolding equations Holds
+  unfolding equations EquationHolds
   one_base = unbroken _ _ (at_most_one f.op1_imm f.op1_ap f.op1_fp) (rw (has.op1_imm, has.op1_ap, has.op1_fp) at (nth 31 (lit< tt)))
 
   pub one_res : two_of f.res_add f.res_mul f.pc_jnz ≡ false
-  unfolding equations Holds
+  unfolding equations EquationHolds
   one_res = unbroken _ _ (at_most_one f.res_add f.res_mul f.pc_jnz) (rw (has.res_add, has.res_mul, has.pc_jnz) at (nth 32 (lit< tt)))
 
   pub one_pc : two_of f.pc_abs f.pc_rel f.pc_jnz ≡ false
-  unfolding equations Holds
+  unfolding equations EquationHolds
   one_pc = unbroken _ _ (at_most_one f.pc_abs f.pc_rel f.pc_jnz) (rw (has.pc_abs, has.pc_rel, has.pc_jnz) at (nth 33 (lit< tt)))
 
   one_opcode : two_of f.op_call f.op_ret f.op_assert ≡ false
-  unfolding equations Holds
+  unfolding equations EquationHolds
   one_opcode = unbroken _ _ (at_most_one f.op_call f.op_ret f.op_assert) (rw (has.op_call, has.op_ret, has.op_assert) at (nth 34 (lit< tt)))
 
   one_ap : f.ap_add && f.ap_add1 ≡ false
-  unfolding equations Holds
+  unfolding equations EquationHolds
   one_ap = unbroken _ _ (not_both f.ap_add f.ap_add1) (rw (has.ap_add, has.ap_add1) at (nth 35 (lit< tt)))
 
   pub jnz_alone : f.pc_jnz && (f.op_call || f.op_ret || f.op_assert) ≡ false
-  unfolding equations Holds
+  unfolding equations EquationHolds
   jnz_alone = unbroken _ _ (not_with_any f.pc_jnz f.op_call f.op_ret f.op_assert) (rw (has.pc_jnz, has.op_call, has.op_ret, has.op_assert) at (nth 36 (lit< tt)))
 
   pub jnz_keeps_ap : f.pc_jnz && f.ap_add ≡ false
-  unfolding equations Holds
+  unfolding equations EquationHolds
   jnz_keeps_ap = unbroken _ _ (not_both f.pc_jnz f.ap_add) (rw (has.pc_jnz, has.ap_add) at (nth 37 (lit< tt)))
 
   call_keeps_ap : f.op_call && (f.ap_add || f.ap_add1) ≡ false
-  unfolding equations Holds
+  unfolding equations EquationHolds
   call_keeps_ap = unbroken _ _ (not_with_either f.op_call f.ap_add f.ap_add1) (rw (has.op_call, has.ap_add, has.ap_add1) at (nth 38 (lit< tt)))
 
   none_broken : first_broken f ≡ None
@@ -85,7 +85,7 @@ module _ (r : Columns) (after : Registers) (f : Flags) (has : HasFlags r f) (mee
     t j = slice_index r.tilde j
 
     last_is_0 : t 15 ≡ 0
-    unfolding equations Holds
+    unfolding equations EquationHolds
     last_is_0 = nth 15 (lit< tt)
 
     last_small : t 15 < 1
@@ -164,7 +164,7 @@ module _ (r : Columns) (after : Registers) (f : Flags) (has : HasFlags r f) (mee
     off_op1_small = All-get_or (λ o. o < 2 ^ 16) (offsets r) 2 0 (lit< tt) small
 
     pub parts : (r.inst < 2 ^ 63) × (bits_from r.inst 0 % 2 ^ 16 ≡ r.off_dst) × (bits_from r.inst 16 % 2 ^ 16 ≡ r.off_op0) × (bits_from r.inst 32 % 2 ^ 16 ≡ r.off_op1) × (bits_from r.inst 48 ≡ t 0)
-    unfolding equations Holds
+    unfolding equations EquationHolds
     parts =
         let tilde_small : t 0 < 2 ^ 15 = apart_0.1 in
         parts_of_word r.inst r.off_dst r.off_op0 r.off_op1 (t 0) off_dst_small off_op0_small off_op1_small tilde_small
@@ -301,19 +301,19 @@ module _ (r : Columns) (after : Registers) (f : Flags) (has : HasFlags r f) (mee
     -- ---- the addresses
 
     pub dst_address_is : dst_address word (state_of r) ≡ r.dst_addr
-    unfolding state_of equations Holds
+    unfolding state_of equations EquationHolds
     dst_address_is =
         moved_by_offset (if f.dst_fp then r.fp else r.ap) r.off_dst off_dst_small
         ∙ (sym (one_of_two f.dst_fp r.fp r.ap r.off_dst) ∙ sym (rw has.dst_fp at (nth 17 (lit< tt))))
 
     pub op0_address_is : op0_address word (state_of r) ≡ r.op0_addr
-    unfolding state_of equations Holds
+    unfolding state_of equations EquationHolds
     op0_address_is =
         moved_by_offset (if f.op0_fp then r.fp else r.ap) r.off_op0 off_op0_small
         ∙ (sym (one_of_two f.op0_fp r.fp r.ap r.off_op0) ∙ sym (rw has.op0_fp at (nth 18 (lit< tt))))
 
     pub op1_address_is : op1_address word (state_of r) r.op0 ≡ r.op1_addr
-    unfolding state_of equations Holds
+    unfolding state_of equations EquationHolds
     op1_address_is =
         let turned : two_of f.op1_imm f.op1_fp f.op1_ap ≡ false = two_of_turned f.op1_imm f.op1_fp f.op1_ap ∙ one_base in
         moved_by_offset (if f.op1_imm then r.pc else (if f.op1_fp then r.fp else (if f.op1_ap then r.ap else r.op0))) r.off_op1 off_op1_small
@@ -323,7 +323,7 @@ module _ (r : Columns) (after : Registers) (f : Flags) (has : HasFlags r f) (mee
     -- ---- what is computed
 
     pub res_is : f.pc_jnz ≡ false → r.res ≡ res f r.op0 r.op1
-    unfolding equations Holds
+    unfolding equations EquationHolds
     res_is j =
         let mul_is : r.mul ≡ r.op0 ⊙ r.op1 = nth 20 (lit< tt) in
         let one : two_of f.res_add f.res_mul false ≡ false = rw j at one_res in
@@ -338,7 +338,7 @@ module _ (r : Columns) (after : Registers) (f : Flags) (has : HasFlags r f) (mee
     size_is = size_of_flag f.op1_imm
 
     next_pc_is : after.pc < prime → after.pc ≡ next_pc f (state_of r) r.dst r.op0 r.op1
-    unfolding state_of equations Holds
+    unfolding state_of equations EquationHolds
     next_pc_is below =
         pc_after f.pc_abs f.pc_rel f.pc_jnz r.dst r.op1 r.res r.t0 r.t1 after.pc r.pc (size f) below (res_low r low) (dst_low r low) one_pc
         (rw has.pc_jnz at (nth 22 (lit< tt)))
@@ -348,7 +348,7 @@ module _ (r : Columns) (after : Registers) (f : Flags) (has : HasFlags r f) (mee
         ∙ same_pc f.pc_abs f.pc_rel f.pc_jnz r.pc (size f) r.dst r.op1 r.res (res f r.op0 r.op1) one_pc res_is
 
     next_ap_is : after.ap ≡ next_ap f (state_of r) r.op0 r.op1
-    unfolding state_of equations Holds
+    unfolding state_of equations EquationHolds
     next_ap_is =
         (rw (has.ap_add, has.ap_add1, has.op_call) at (nth 26 (lit< tt)))
         ∙ (next_of_ap f.op_call f.ap_add f.ap_add1 r.ap r.res (ap_low r low) one_ap call_keeps_ap
@@ -358,7 +358,7 @@ module _ (r : Columns) (after : Registers) (f : Flags) (has : HasFlags r f) (mee
     not_called_and_returned = first_two f.op_call f.op_ret f.op_assert one_opcode
 
     next_fp_is : after.fp ≡ next_fp f (state_of r) r.dst
-    unfolding state_of equations Holds
+    unfolding state_of equations EquationHolds
     next_fp_is =
         (rw (has.op_ret, has.op_call) at (nth 27 (lit< tt)))
         ∙ next_of_fp f.op_call f.op_ret r.ap r.dst r.fp (dst_low r low) (fp_low r low) not_called_and_returned
@@ -373,19 +373,19 @@ module _ (r : Columns) (after : Registers) (f : Flags) (has : HasFlags r f) (mee
     -- ---- what the opcode demands
 
     stores_fp : has_caller_fp f (state_of r) r.dst ≡ true
-    unfolding state_of equations Holds
+    unfolding state_of equations EquationHolds
     stores_fp =
         sym (demanded f.op_call (r.dst == r.fp) (r.dst ⊖ r.fp) (field_sub_below r.dst r.fp) (tested_gap r.dst r.fp (dst_low r low) (fp_low r low)))
         ∙ ap (λ v. v == 0) (rw has.op_call at (nth 28 (lit< tt)))
 
     stores_pc : has_return_pc f (state_of r) r.op0 ≡ true
-    unfolding state_of equations Holds
+    unfolding state_of equations EquationHolds
     stores_pc =
         sym (demanded f.op_call (r.op0 == (r.pc ⊕ size f)) (r.op0 ⊖ r.pc ⊖ size f) (field_sub_below (r.op0 ⊖ r.pc) (size f)) (tested_gap_of_sum r.op0 r.pc (size f) (op0_low r low)))
         ∙ ap (λ v. v == 0) (rw (has.op_call, has.op1_imm, size_is) at (nth 29 (lit< tt)))
 
     asserts : meets_assertion f r.dst r.op0 r.op1 ≡ true
-    unfolding equations Holds
+    unfolding equations EquationHolds
     asserts =
         sym (same_assertion f.op_call f.op_ret f.op_assert f.pc_jnz r.dst r.res (res f r.op0 r.op1) jnz_alone res_is)
         ∙ (sym (demanded f.op_assert (r.dst == r.res) (r.dst ⊖ r.res) (field_sub_below r.dst r.res) (tested_gap r.dst r.res (dst_low r low) (res_low r low)))
@@ -396,12 +396,12 @@ module _ (r : Columns) (after : Registers) (f : Flags) (has : HasFlags r f) (mee
     next_by_is : after.pc < prime → next_by f (state_of r) r.dst r.op0 r.op1 ≡ Some after
     next_by_is below = rw (stores_pc, stores_fp, asserts, next_is below) refl
 
-    pub cell : (m : Memory) (k : ℕ) → HasCells m (accesses r) → k < 4 → m (get_or (accesses r) k (0, 0)).0 ≡ Some (get_or (accesses r) k (0, 0)).1
-    unfolding accesses
-    cell m k h below = All-get_or (λ (c : ℕ × ℕ). m c.0 ≡ Some c.1) (accesses r) k (0, 0) below h
+    pub cell : (m : Memory) (k : ℕ) → HasCells m (row_accesses r) → k < 4 → m (get_or (row_accesses r) k (0, 0)).0 ≡ Some (get_or (row_accesses r) k (0, 0)).1
+    unfolding row_accesses
+    cell m k h below = All-get_or (λ (c : ℕ × ℕ). m c.0 ≡ Some c.1) (row_accesses r) k (0, 0) below h
 
-    pub steps : after.pc < prime → (m : Memory) → HasCells m (accesses r) → next m (state_of r) ≡ Some after
-    unfolding next accesses state_of
+    pub steps : after.pc < prime → (m : Memory) → HasCells m (row_accesses r) → next m (state_of r) ≡ Some after
+    unfolding next row_accesses state_of
     steps below m h =
         let c0 : m r.pc ≡ Some r.inst = cell m 0 h (lit< tt) in
         let c1 : m r.dst_addr ≡ Some r.dst = cell m 1 h (lit< tt) in
@@ -413,7 +413,7 @@ module _ (r : Columns) (after : Registers) (f : Flags) (has : HasFlags r f) (mee
 pub HasFlags-from_meets : (r : Columns) (after : Registers) → Meets r after → HasFlags r (row_flags r)
 unfolding equations Meets
 HasFlags-from_meets r after meets =
-    HasFlags-row_flags r after (All-take Holds 15 (equations r after) meets)
+    HasFlags-row_flags r after (All-take EquationHolds 15 (equations r after) meets)
 
 -- a row that meets the equations is a step
 pub IsStep-from_meets : (r : Columns) (after : Registers) → IsInField r → after.pc < prime → HasSmallOffsets r → Meets r after → IsStep r after

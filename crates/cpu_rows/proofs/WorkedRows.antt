@@ -6,7 +6,7 @@ use Rattle.goldilocks.specs.Field.{field_add, field_sub, field_mul, field_of_int
 use Rattle.casm_word.specs.Word.{flags_of, word_of, breaks, first_broken, decoding}
 use Rattle.casm_word.specs.Transition.{Memory, Registers}
 use Rattle.cpu_rows.specs.Columns.{Columns, values, state_of}
-use Rattle.cpu_rows.specs.Equations.{flag, equations, holds, first_failing, fault}
+use Rattle.cpu_rows.specs.Equations.{flag, equations, holds, failing_number, fault}
 use Rattle.cpu_rows.specs.Steps.{IsRowOf, row_of, tilde_of, IsRes, IsInverseOrZero}
 use Rattle.cpu_rows.specs.Table.{faults}
 
@@ -66,20 +66,20 @@ unfolding values
 in_order = refl
 
 met : fault row_1 (state 7 12 11) ≡ None
-unfolding flag equations holds first_failing fault field_add field_sub field_mul
+unfolding flag equations holds failing_number fault field_add field_sub field_mul
 met = refl
 
 -- with t1 = 2, and with another next pc
 wrong_t1 : fault (record row_1 { t1 = 2 }) (state 7 12 11) ≡ Some 24
-unfolding flag equations holds first_failing fault field_add field_sub field_mul
+unfolding flag equations holds failing_number fault field_add field_sub field_mul
 wrong_t1 = refl
 
 wrong_pc : fault row_1 (state 6 12 11) ≡ Some 26
-unfolding flag equations holds first_failing fault field_add field_sub field_mul
+unfolding flag equations holds failing_number fault field_add field_sub field_mul
 wrong_pc = refl
 
 first_wrong : faults (row_0 ∷ row_1 ∷ []) (state 6 12 11) ≡ None ∷ Some 26 ∷ []
-unfolding flag equations holds first_failing fault faults state_of field_add field_sub field_mul
+unfolding flag equations holds failing_number fault faults state_of field_add field_sub field_mul
 first_wrong = refl
 
 -- the memory of the run, and the row of its second step

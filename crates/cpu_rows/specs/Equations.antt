@@ -8,13 +8,15 @@ use Rattle.cpu_rows.specs.Columns.{Columns}
 infixl 7 ◌⊙◌
 infixl 6 ◌⊕◌
 infixl 6 ◌⊖◌
--- The field's sum, difference and product, as they are read. Own.
+-- The field's sum, as an operator. Own.
 abbrev pub ◌⊕◌ : ℕ → ℕ → ℕ
 a ⊕ b = field_add a b
 
+-- The field's difference, as an operator. Own.
 abbrev pub ◌⊖◌ : ℕ → ℕ → ℕ
 a ⊖ b = field_sub a b
 
+-- The field's product, as an operator. Own.
 abbrev pub ◌⊙◌ : ℕ → ℕ → ℕ
 a ⊙ b = field_mul a b
 
@@ -100,8 +102,8 @@ equations r next =
     ∷ []
 
 -- The equation holds. Own.
-unfoldable pub Holds : Equation → Type 0
-Holds e = e.left ≡ e.right
+unfoldable pub EquationHolds : Equation → Type 0
+EquationHolds e = e.left ≡ e.right
 
 -- The test of that. Own.
 unfoldable pub holds : Equation → Bool
@@ -109,17 +111,17 @@ holds e = e.left == e.right
 
 -- The row and the next state meet each of the equations. The whitepaper's constraints of the Cairo machine.
 unfoldable pub Meets : Columns → Registers → Type 0
-Meets r next = All Holds (equations r next)
+Meets r next = All EquationHolds (equations r next)
 
 -- The number of the first equation in a list that fails. Own.
-unfoldable pub first_failing : List Equation → Option ℕ
-first_failing es = option_map (λ e. e.number) (find (λ e. not (holds e)) es)
+unfoldable pub failing_number : List Equation → Option ℕ
+failing_number es = option_map (λ e. e.number) (find (λ e. not (holds e)) es)
 
 -- The least number of an equation that fails. Own.
 unfoldable pub fault : Columns → Registers → Option ℕ
-fault r next = first_failing (equations r next)
+fault r next = failing_number (equations r next)
 
 -- An equation of this number fails, and each of a lesser number holds. Own.
 pub record IsLeastFailing (es : List Equation) (k : ℕ) : Type 0 where
-  pub fails : Any (λ e. (e.number ≡ k) × (Holds e → ⊥)) es
-  pub lesser : All (λ e. e.number < k → Holds e) es
+  pub fails : Any (λ e. (e.number ≡ k) × (EquationHolds e → ⊥)) es
+  pub lesser : All (λ e. e.number < k → EquationHolds e) es

@@ -43,8 +43,8 @@ pub record HasWord (r : Columns) (w : Word) : Type 0 where
   pub off_op1 : w.off_op1 ≡ pos r.off_op1 -ℤ pos (2 ^ 15)
 
 -- The cells that the row says were read, each an address and a value. The whitepaper's memory accesses of a step.
-unfoldable pub accesses : Columns → List (ℕ × ℕ)
-accesses r = (r.pc, r.inst) ∷ (r.dst_addr, r.dst) ∷ (r.op0_addr, r.op0) ∷ (r.op1_addr, r.op1) ∷ []
+unfoldable pub row_accesses : Columns → List (ℕ × ℕ)
+row_accesses r = (r.pc, r.inst) ∷ (r.dst_addr, r.dst) ∷ (r.op0_addr, r.op0) ∷ (r.op1_addr, r.op1) ∷ []
 
 -- The memory has each of these cells. Own.
 abbrev pub HasCells : Memory → List (ℕ × ℕ) → Type 0
@@ -63,7 +63,7 @@ HasSmallOffsets r = All (λ offset. offset < 2 ^ 16) (offsets r)
 pub record IsStep (r : Columns) (after : Registers) : Type 0 where
   pub below : r.inst < 2 ^ 63
   pub word : IsOkAnd (decoding r.inst) (λ w. HasWord r w)
-  pub step : (m : Memory) → HasCells m (accesses r) → next m (state_of r) ≡ Some after
+  pub step : (m : Memory) → HasCells m (row_accesses r) → next m (state_of r) ≡ Some after
 
 -- ---- the row of a step
 
@@ -113,7 +113,7 @@ row_of s number w dst op0 op1 res =
       t1 = field_mul t0 res;
     }
 
--- The row is that of the step from the state in the memory: its word and operands are the cells that the transition
+-- The row is that of the step from the state in the memory. Its word and operands are the cells that the transition
 -- function reads, and the rest follows from them. Own.
 pub record IsRowOf (m : Memory) (s : Registers) (r : Columns) : Type 0 where
   pub word : Word
@@ -127,13 +127,13 @@ pub record IsRowOf (m : Memory) (s : Registers) (r : Columns) : Type 0 where
 
 -- ---- how many rows a step has
 
--- The row tells the step between two states in the memory: it begins in the first, its cells are in the memory, its
--- offsets have sixteen bits, and with the second it meets the equations. Own.
+-- The row tells the step between two states in the memory. It begins in the first, its cells are in the memory, and its
+-- offsets have sixteen bits. With the second it meets the equations. Own.
 pub record Tells (m : Memory) (s after : Registers) (r : Columns) : Type 0 where
   pub row : IsRow r
   pub next_pc : after.pc < prime
   pub state : state_of r ≡ s
-  pub cells : HasCells m (accesses r)
+  pub cells : HasCells m (row_accesses r)
   pub offsets : HasSmallOffsets r
   pub meets : Meets r after
 

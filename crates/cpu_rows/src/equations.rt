@@ -1,12 +1,12 @@
 //! The equations of a row, evaluated.
-#![tactic(auto, unfolding(crate::specs::Equations::Holds, crate::specs::Equations::holds, crate::specs::Equations::first_failing))]
+#![tactic(auto, unfolding(crate::specs::Equations::EquationHolds, crate::specs::Equations::holds, crate::specs::Equations::failing_number))]
 
 ghost use Rattle.std.specs.Prelude.{◌≡◌, ◌≢◌, ◌<◌, ◌+◌, if◌then◌else◌, [], ◌∷◌, ◌↔◌, IsNone, IfSome, IfOk, IfErr, MatchResult, take, drop, slice_range, option_map};
 ghost use Rattle.goldilocks.specs.Field.{field_mul};
 ghost use Rattle.casm_word.specs.Word.{two_of, first_broken};
 ghost use Rattle.casm_word.specs.Transition.{Registers, registers, size};
 ghost use Rattle.cpu_rows.specs.Columns.{columns};
-ghost use Rattle.cpu_rows.specs.Equations.{C, ◌≐◌, ◌⊖◌, ◌⊙◌, flag, equations, first_failing, fault, Meets, IsLeastFailing};
+ghost use Rattle.cpu_rows.specs.Equations.{C, ◌≐◌, ◌⊖◌, ◌⊙◌, flag, equations, failing_number, fault, Meets, IsLeastFailing};
 ghost use Rattle.cpu_rows.specs.Steps.{zero_or_one, HasFlags, HasSmallOffsets, IsStep, equation_of};
 
 use crate::Row;
@@ -67,7 +67,7 @@ impl Row {
     /// The flags, or the least number of C1 to C15 that fails.
     fn flags(&self) -> Result<Flags, u8>
         ensures { (after : Registers) → MatchResult result (λ f. HasFlags (columns self.now) f)
-            (λ k. first_failing (take 15 (equations (columns self.now) after)) ≡ Some k) }
+            (λ k. failing_number (take 15 (equations (columns self.now) after)) ≡ Some k) }
     {
         let mut set = [false; 15];
         for place in 0..15 {
@@ -94,7 +94,7 @@ impl Row {
 
     /// C16 and C17: the word is its offsets and flags.
     fn word_fault(&self) -> Option<u8>
-        ensures { (after : Registers) → result ≡ first_failing (slice_range (equations (columns self.now) after) 15 17) }
+        ensures { (after : Registers) → result ≡ failing_number (slice_range (equations (columns self.now) after) 15 17) }
     {
         let word = self
             .off_dst
@@ -107,7 +107,7 @@ impl Row {
     /// C18 to C20: where the operands lie.
     fn address_fault(&self, flags: Flags) -> Option<u8>
         requires { HasFlags (columns self.now) flags }
-        ensures { (after : Registers) → result ≡ first_failing (slice_range (equations (columns self.now) after) 17 20) }
+        ensures { (after : Registers) → result ≡ failing_number (slice_range (equations (columns self.now) after) 17 20) }
     {
         let op1_base = when(flags.op1_imm, self.pc)
             .add(when(flags.op1_ap, self.ap))
@@ -137,7 +137,7 @@ impl Row {
     /// jump.
     fn operand_fault(&self, flags: Flags) -> Option<u8>
         requires { HasFlags (columns self.now) flags }
-        ensures { (after : Registers) → result ≡ first_failing (slice_range (equations (columns self.now) after) 20 24) }
+        ensures { (after : Registers) → result ≡ failing_number (slice_range (equations (columns self.now) after) 20 24) }
     {
         let computed = when(flags.res_add, self.op0.add(self.op1))
             .add(when(flags.res_mul, self.mul))
@@ -151,7 +151,7 @@ impl Row {
     /// C25 to C31: the next state, and what an opcode demands.
     pub(crate) fn step_fault(&self, flags: Flags, next: State) -> Option<u8>
         requires { HasFlags (columns self.now) flags }
-        ensures { result ≡ first_failing (slice_range (equations (columns self.now) (registers next)) 24 31) }
+        ensures { result ≡ failing_number (slice_range (equations (columns self.now) (registers next)) 24 31) }
     {
         self.next_state_fault(flags, next)
             .or(self.opcode_fault(flags))
@@ -160,7 +160,7 @@ impl Row {
     /// C25 to C28: the next state.
     fn next_state_fault(&self, flags: Flags, next: State) -> Option<u8>
         requires { HasFlags (columns self.now) flags }
-        ensures { result ≡ first_failing (slice_range (equations (columns self.now) (registers next)) 24 28) }
+        ensures { result ≡ failing_number (slice_range (equations (columns self.now) (registers next)) 24 28) }
     {
         self.next_pc_fault(flags, next.pc)
             .or(self.next_frame_fault(flags, next))
@@ -170,7 +170,7 @@ impl Row {
     fn next_pc_fault(&self, flags: Flags, next_pc: Felt) -> Option<u8>
         requires { HasFlags (columns self.now) flags }
         ensures { (after : Registers) → after.pc ≡ next_pc.number →
-            result ≡ first_failing (slice_range (equations (columns self.now) after) 24 26) }
+            result ≡ failing_number (slice_range (equations (columns self.now) after) 24 26) }
     {
         let further = next_pc.sub(self.pc);
         let left = self
@@ -194,7 +194,7 @@ impl Row {
     /// C27 and C28: the next ap and fp.
     fn next_frame_fault(&self, flags: Flags, next: State) -> Option<u8>
         requires { HasFlags (columns self.now) flags }
-        ensures { result ≡ first_failing (slice_range (equations (columns self.now) (registers next)) 26 28) }
+        ensures { result ≡ failing_number (slice_range (equations (columns self.now) (registers next)) 26 28) }
     {
         let ap = self
             .ap
@@ -215,7 +215,7 @@ impl Row {
     /// C29 to C31: what an opcode demands.
     fn opcode_fault(&self, flags: Flags) -> Option<u8>
         requires { HasFlags (columns self.now) flags }
-        ensures { (after : Registers) → result ≡ first_failing (slice_range (equations (columns self.now) after) 28 31) }
+        ensures { (after : Registers) → result ≡ failing_number (slice_range (equations (columns self.now) after) 28 31) }
     {
         unmet(29, when(flags.op_call, self.dst.sub(self.fp)), Felt::ZERO)
             .or(unmet(
@@ -249,7 +249,7 @@ fn shape_fault(flags: Flags) -> Option<u8>
 
 /// The equation of this number, where its sides differ.
 fn unmet(number: u8, left: Felt, right: Felt) -> Option<u8>
-    ensures { result ≡ first_failing (C number (left.number ≐ right.number) ∷ []) }
+    ensures { result ≡ failing_number (C number (left.number ≐ right.number) ∷ []) }
 {
     if left.number == right.number {
         None

@@ -6,7 +6,7 @@ ghost use Rattle.casm_word.specs.declared.Flags.{Flags};
 ghost use Rattle.casm_word.specs.Word.{first_broken};
 ghost use Rattle.casm_word.specs.Transition.{Memory, Registers, next};
 ghost use Rattle.cpu_rows.specs.Columns.{Columns, values, IsRow};
-ghost use Rattle.cpu_rows.specs.Equations.{Equation, equations, Holds, first_failing};
+ghost use Rattle.cpu_rows.specs.Equations.{Equation, equations, EquationHolds, failing_number};
 ghost use Rattle.cpu_rows.specs.Steps.{HasFlags, IsRowOf, Tells, GoesOnBehind, with_res, equation_of};
 
 /// The equations are numbered 1 to 39 in their order. The first fifteen hold exactly where each flag is 0 or 1. Of the
@@ -16,9 +16,9 @@ pub fn equation_laws()
     ensures names { (r : Columns) (after : Registers) (d : Equation) → (length (equations r after) ≡ 39)
         × ((k : ℕ) → k < 39 → (slice_index_or (equations r after) k d).number ≡ k + 1) }
     ensures flags { (r : Columns) (after : Registers) →
-        All Holds (take 15 (equations r after)) ↔ ((f : Flags) × HasFlags r f) }
+        All EquationHolds (take 15 (equations r after)) ↔ ((f : Flags) × HasFlags r f) }
     ensures shapes { (r : Columns) (after : Registers) (f : Flags) → HasFlags r f →
-        option_map equation_of (first_broken f) ≡ first_failing (drop 31 (equations r after)) }
+        option_map equation_of (first_broken f) ≡ failing_number (drop 31 (equations r after)) }
 {}
 
 /// The values of a row determine it.

@@ -6,7 +6,7 @@ ghost use Rattle.casm_word.specs.Transition.{Memory, registers};
 ghost use Rattle.casm_word.specs.Run.{LegalRun};
 ghost use Rattle.cpu_rows.specs.Columns.{columns};
 ghost use Rattle.cpu_rows.specs.Equations.{Meets};
-ghost use Rattle.cpu_rows.specs.Steps.{HasSmallOffsets, HasCells, accesses};
+ghost use Rattle.cpu_rows.specs.Steps.{HasSmallOffsets, HasCells, row_accesses};
 ghost use Rattle.cpu_rows.specs.Table.{states_of, with_next, IsFirstFault};
 
 use crate::Row;
@@ -23,7 +23,7 @@ pub fn first_fault(rows: &[Row], last: State) -> Option<(usize, u8)>
 
     // Rows with no fault are a legal run, in every memory that has their cells.
     ensures run { IsNone result → 0 < length rows.now → All HasSmallOffsets (map columns rows.now) →
-        (m : Memory) → All (λ r. HasCells m (accesses r)) (map columns rows.now) →
+        (m : Memory) → All (λ r. HasCells m (row_accesses r)) (map columns rows.now) →
         LegalRun m (states_of (map columns rows.now) (registers last)) }
 {
     for (place, row) in rows.iter().enumerate() {

@@ -1,4 +1,4 @@
--- How a real file is replaced. The whitepaper speaks of no files; all of this is the project's own.
+-- How a real file is replaced. No public contract cites it. The whitepaper speaks of no files; all of this is own.
 use Rattle.std.specs.Prelude.{◌≡◌, ℕ, None, Some}
 use Rattle.std.specs.Fs.{permissions_mode}
 use Rattle.file_port.specs.declared.replacing.Manner.{Manner}

@@ -1,8 +1,8 @@
 //! A store of named files and a sink for lines, with their faults counted.
 //!
 //! Programs are written over the traits [`Store`] and [`Sink`]. [`SureStore`] and [`SureSink`] hold all in
-//! memory and have no faults, [`MemoryStore`] and [`MemorySink`] fail at the calls that a test lists, and
-//! [`DiskStore`] and [`OutSink`] are the real files and the standard output.
+//! memory and have no faults. [`MemoryStore`] and [`MemorySink`] fail at the calls that a test lists. [`DiskStore`] and
+//! [`OutSink`] are the real files and the standard output.
 #![tactic(auto)]
 
 mod disk;

@@ -60,7 +60,7 @@ pub(crate) fn replace_whole<R: Files>(
         }
         Manner::Beside(Some(_)) => Err(PortError::Failed),
         Manner::Beside(None) => replace_beside(alloc, files, name, bytes, None),
-        Manner::InPlace => counted(fs::write(files, name, bytes)),
+        Manner::InPlace => or_failed(fs::write(files, name, bytes)),
     }
 }
 
@@ -127,7 +127,7 @@ fn fill<F: Write + OpenFile + Drop>(
 }
 
 /// A fault of the system, whichever it is.
-fn counted(written: io::Result<()>) -> Result<(), PortError>
+fn or_failed(written: io::Result<()>) -> Result<(), PortError>
     ensures ok { IfOk written (λ done. result ≡ Ok done) }
     ensures failed { IfErr written (λ _. result ≡ Err PortError.Failed) }
 {

@@ -1,5 +1,5 @@
--- Polynomial identities of the field, and what follows from equations, by computation: an expression is data with
--- a meaning, its normal form is a list of terms, and an equation holds where each coefficient of the difference is
+-- Polynomial identities of the field, and what follows from equations, by computation. An expression is data with
+-- a meaning, and its normal form is a list of terms. An equation holds where each coefficient of the difference is
 -- a multiple of p.
 use Rattle.std.proofs.Common.{◌≡◌, ℕ, ◌+◌, ◌*◌, ◌%◌, ◌<◌, ◌∙◌, Bool, true, false, cond, ◌&&◌, eqb, leb, ltb, List, [], ◌∷◌, get_or, sym, ap, refl, arith}
 use Rattle.std.proofs.Math.Nat.{mul_assoc, mul_left_comm, mul-mul-mul_comm, mul-add, add-mul, mod-mod, mod-eq_of_lt, one-mul, zero-mul, mul-zero}

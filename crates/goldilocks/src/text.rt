@@ -36,7 +36,7 @@ impl Felt {
         }
     }
 
-    /// Appends the value's decimal digits.
+    /// Appends the value's decimal digits. The only error is want of memory, and then nothing is appended.
     pub fn write_text(self, alloc: Global, out: &mut Vec<u8>) -> Result<(), AllocError>
         ensures ok { OnOk result (out.new.items ≡ out.old.items ++ decimal self.number) }
         ensures err { OnErr result (out.new.items ≡ out.old.items) }
@@ -48,7 +48,8 @@ impl Felt {
         out.extend_from_slice(text.as_bytes())
     }
 
-    /// Appends `0x` and the value's lower-case hexadecimal digits, with no leading zeros; 0 is `0x0`.
+    /// Appends `0x` and the value's lower-case hexadecimal digits, with no leading zeros; 0 is `0x0`. The only error is
+    /// want of memory, and then nothing is appended.
     pub fn write_hex(self, alloc: Global, out: &mut Vec<u8>) -> Result<(), AllocError>
         ensures ok { OnOk result (out.new.items ≡ out.old.items ++ (codes "0x" ++ digits 16 false self.number)) }
         ensures err { OnErr result (out.new.items ≡ out.old.items) }

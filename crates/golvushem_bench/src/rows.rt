@@ -1,6 +1,6 @@
 //! Rows of a run of 2^20 steps, built and checked.
 //!
-//! The program writes sums, 64 of them in a row, and then jumps back where the last of them isn't 0:
+//! The program writes sums, 64 of them in a row, and then jumps back where the last of them isn't 0. The statements are
 //! `[ap] = [ap - 1] + [ap - 2]; ap++` and `jmp rel -64 if [ap - 1] != 0`.
 
 ghost use Rattle.std.specs.Prelude.{option_map, slice_get};

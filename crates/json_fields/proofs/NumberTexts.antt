@@ -12,7 +12,8 @@ use Rattle.goldilocks.specs.declared.Felt.{Felt}
 use Rattle.goldilocks.specs.declared.text.TextFault.{TextFault}
 use Rattle.goldilocks.proofs.Pairs.{same_felt}
 use Rattle.goldilocks.proofs.Texts.{Writes-hex}
-use Rattle.json_fields.specs.FieldTexts.{felt_of, is_number_text, felt_of_text, hex_text}
+use Rattle.goldilocks.specs.Felts.{felt}
+use Rattle.json_fields.specs.FieldTexts.{is_number_text, felt_of_text, hex_text}
 
 AllDigits-list_all : (base : ℕ) (ds : List ℕ) → list_all (λ b. nat_lt (digit_value b) base) ds ≡ true → AllDigits base ds
 AllDigits-list_all base [] h = tt
@@ -30,24 +31,23 @@ IsNumberText-from_true : (text : List ℕ) → is_number_text text ≡ true → 
 unfolding IsNumberText
 IsNumberText-from_true text h = let p = and_parts _ _ h in (ltb-true _ _ p.0, AllDigits-list_all (base_of text) (digit_bytes text) p.1)
 
-number-felt_of : (n : ℕ) → n < prime → (felt_of n).number ≡ n
-unfolding felt_of
-number-felt_of n h = mod-eq_of_lt h
+number-felt : (n : ℕ) → n < prime → (felt n).number ≡ n
+number-felt n h = mod-eq_of_lt h
 
 -- a text that writes a number is read as it
 pub felt_of_text-Writes : (text : List ℕ) (x : Felt) → Writes text x.number → felt_of_text text ≡ Some x
 unfolding felt_of_text Writes
 felt_of_text-Writes text x h =
     let low : text_number text < prime = subst (λ n. n < prime) (sym h.1) h.2 in
-    let same : felt_of (text_number text) ≡ x = same_felt (felt_of (text_number text)) x (number-felt_of (text_number text) low ∙ h.1) in
+    let same : felt (text_number text) ≡ x = same_felt (felt (text_number text)) x (number-felt (text_number text) low ∙ h.1) in
     rw (is_number_text-true text h.0, lt-ltb _ _ low) (ap Some same)
 
-given : (text : List ℕ) (x : Felt) (a b : Bool) → is_number_text text ≡ a → nat_lt (text_number text) prime ≡ b → cond (a && b) (Some (felt_of (text_number text))) None ≡ Some x → Writes text x.number
+given : (text : List ℕ) (x : Felt) (a b : Bool) → is_number_text text ≡ a → nat_lt (text_number text) prime ≡ b → cond (a && b) (Some (felt (text_number text))) None ≡ Some x → Writes text x.number
 unfolding Writes
 given text x true true e f h =
     let low : text_number text < prime = ltb-true _ _ f in
-    let same : felt_of (text_number text) ≡ x = cc in
-    let number : text_number text ≡ x.number = sym (number-felt_of (text_number text) low) ∙ ap (λ (v : Felt). v.number) same in
+    let same : felt (text_number text) ≡ x = cc in
+    let number : text_number text ≡ x.number = sym (number-felt (text_number text) low) ∙ ap (λ (v : Felt). v.number) same in
     (IsNumberText-from_true text e, number, x.in_field)
 given text x true false e f h = absurd (cc)
 given text x false b e f h = absurd (cc)
@@ -60,7 +60,7 @@ Writes-felt_of_text text x h = given text x _ _ refl refl h
 pub felt_of_text-hex_text : (x : Felt) → felt_of_text (hex_text x) ≡ Some x
 felt_of_text-hex_text x = felt_of_text-Writes (hex_text x) x (Writes-hex x.number x.in_field)
 
-refused : (text : List ℕ) (a b : Bool) → is_number_text text ≡ a → nat_lt (text_number text) prime ≡ b → (IsNumberText text × (text_number text < prime) → ⊥) → None ≡ cond (a && b) (Some (felt_of (text_number text))) None
+refused : (text : List ℕ) (a b : Bool) → is_number_text text ≡ a → nat_lt (text_number text) prime ≡ b → (IsNumberText text × (text_number text < prime) → ⊥) → None ≡ cond (a && b) (Some (felt (text_number text))) None
 refused text true true e f none = absurd (none (IsNumberText-from_true text e, ltb-true _ _ f))
 refused text true false e f none = refl
 refused text false b e f none = refl

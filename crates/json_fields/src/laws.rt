@@ -15,7 +15,7 @@ pub fn field_texts()
     ensures written { (x : Felt) → felt_of_text (hex_text x) ≡ Some x }
 {}
 
-/// The text of a plain value is read back as that value.
+/// The text of a plain value that nests at most 127 deep is read back as that value.
 pub fn read_back()
     ensures { (d : Data) → IsPlain d → depth d ≤ max_depth → json_of (compact_text d) ≡ Some d }
 {}

@@ -16,6 +16,7 @@ const TABLES: &[&str] = &["tables", "P", "U", "S", "M", "T"];
 fn call(
     rt: &impl Abort,
     alloc: Global,
+    row: &str,
     command: &[&str],
     store: &mut MemoryStore,
     wanted: (Status, &str),
@@ -26,8 +27,8 @@ fn call(
     }
     let mut sink = MemorySink::new(alloc, Vec::new(alloc));
     let status = perform(alloc, &words, store, &mut sink);
-    assert_eq!(rt; status, wanted.0);
-    assert_eq!(rt; sink.bytes(), wanted.1.as_bytes());
+    assert_eq!(rt; status, wanted.0, "{row}: the status");
+    assert_eq!(rt; sink.bytes(), wanted.1.as_bytes(), "{row}: the line");
     Ok(())
 }
 
@@ -35,6 +36,7 @@ fn call(
 fn check(
     rt: &impl Abort,
     alloc: Global,
+    row: &str,
     files: [Vec<u8>; 3],
     wanted: (Status, &str),
 ) -> Result<(), AllocError> {
@@ -44,7 +46,7 @@ fn check(
     list.push((String::from_str(alloc, "U")?, public))?;
     list.push((String::from_str(alloc, "T")?, tables))?;
     let mut store = MemoryStore::new(list, Vec::new(alloc));
-    call(rt, alloc, CHECK, &mut store, wanted)
+    call(rt, alloc, row, CHECK, &mut store, wanted)
 }
 
 /// Appends the numbers of each run, one after another.
@@ -76,7 +78,8 @@ fn a_loop_of_twenty_is_accepted(rt: HostRuntime) -> Result<(), Fail> {
     let tables = tables_of_twenty(alloc)?;
     assert_eq!(rt; tables.len(), 1027560);
     let files = [program, public, tables];
-    check(&rt, alloc, files, (Done, "check: accepted, 109 steps\n"))?;
+    let accepted = "check: accepted, 109 steps\n";
+    check(&rt, alloc, "tables from outside", files, (Done, accepted))?;
     Ok(())
 }
 
@@ -103,11 +106,11 @@ fn the_tables_of_twenty_are_built(rt: HostRuntime) -> Result<(), Fail> {
     list.push((String::from_str(alloc, "M")?, memory))?;
     let mut store = MemoryStore::new(list, Vec::new(alloc));
     let built = "tables: 109 steps, 1027560 bytes\n";
-    call(&rt, alloc, TABLES, &mut store, (Done, built))?;
+    call(&rt, alloc, "built", TABLES, &mut store, (Done, built))?;
     let wanted = tables_of_twenty(alloc)?;
     assert!(rt; store.file("T") == Some(wanted.as_slice()), "the tables");
     let accepted = "check: accepted, 109 steps\n";
-    call(&rt, alloc, CHECK, &mut store, (Done, accepted))?;
+    call(&rt, alloc, "checked", CHECK, &mut store, (Done, accepted))?;
     Ok(())
 }
 
@@ -124,11 +127,17 @@ fn longer_files_are_above_the_limit(rt: HostRuntime) -> Result<(), Fail> {
     let program = Vec::from_slice(alloc, PROGRAM.as_bytes())?;
     let public = zeros(alloc, 33554433)?;
     let files = [program, public, Vec::new(alloc)];
-    check(&rt, alloc, files, (Limit, "limit: input 2\n"))?;
+    check(
+        &rt,
+        alloc,
+        "a public input",
+        files,
+        (Limit, "limit: input 2\n"),
+    )?;
     let program = Vec::from_slice(alloc, PROGRAM.as_bytes())?;
     let public = Vec::from_slice(alloc, PUBLIC.as_bytes())?;
     let files = [program, public, zeros(alloc, 464519241)?];
-    check(&rt, alloc, files, (Limit, "limit: input 3\n"))?;
+    check(&rt, alloc, "tables", files, (Limit, "limit: input 3\n"))?;
     Ok(())
 }
 
@@ -162,7 +171,8 @@ fn cells_are_counted_before_they_are_read(rt: HostRuntime) -> Result<(), Fail> {
         let program = Vec::from_slice(alloc, PROGRAM.as_bytes())?;
         let public = many_cells(alloc, *count)?;
         let files = [program, public, Vec::new(alloc)];
-        check(&rt, alloc, files, (*status, line))?;
+        let row = format!(in alloc; "{count} entries")?;
+        check(&rt, alloc, &row, files, (*status, line))?;
     }
     Ok(())
 }

@@ -1,13 +1,13 @@
 -- The equations of the memory columns, on all accesses to the memory and on the sorted pairs. "The whitepaper" is
 -- Cairo's, ePrint 2021/1063. It compares the two lists by a random product; here they are compared exactly.
-use Rattle.std.specs.Prelude.{ℕ, ◌≡◌, ◌≢◌, ◌⊎◌, ◌+◌, ◌<◌, Bool, ◌&&◌, ◌==◌, List, length, take, Option, Some, None, option_map, if◌then◌else◌, slice_get, slice_index_or}
+use Rattle.std.specs.Prelude.{ℕ, ◌≡◌, ◌⊎◌, ◌+◌, ◌<◌, Bool, ◌&&◌, ◌==◌, List, length, Option, Some, None, option_map, if◌then◌else◌, slice_index_or}
 use Rattle.std.specs.List.{AllAdjacentBelow}
 use Rattle.std.specs.Option.{option_or}
 use Rattle.std.specs.Ordering.{nat_cmp, ordering_then}
 use Rattle.std.specs.declared.cmp.Ordering.{Ordering}
 use Rattle.goldilocks.specs.Field.{field_sub, field_mul}
 use Rattle.goldilocks.specs.declared.Pair.{Pair}
-use Rattle.sorted_lists.specs.Order.{in_order}
+use Rattle.sorted_lists.specs.Order.{in_order, DiffersFirstAt}
 use Rattle.sorted_lists.specs.Difference.{list_difference}
 use Rattle.sorted_lists.specs.Climbing.{climb, AllNeighbours, first_between}
 use Rattle.memory_columns.specs.declared.ListFault.{ListFault}
@@ -74,12 +74,9 @@ RelatesAt R sorted row = (row + 1 < length sorted) × ((d : Pair) → R (slice_i
 abbrev pub FailsAt : (Pair → Pair → Type 0) → List Pair → ℕ → Type 0
 FailsAt R sorted row = RelatesAt (λ x y. R x y → ⊥) sorted row
 
--- Two lists agree before the place and differ there, where one of them may end. Own.
-abbrev pub DiffersFirstAt : List Pair → List Pair → ℕ → Type 0
-DiffersFirstAt xs ys place = (take place xs ≡ take place ys) × (slice_get xs place ≢ slice_get ys place)
-
--- The fault is the first: M1 and M2 hold between all pairs before its row, M1 fails there; or M1 holds there and M2
--- fails; or both hold everywhere, and the two ordered lists agree before its row and differ there. Own.
+-- The fault is the first. Of M1 or M2: both hold between all pairs before its row, and M1 fails there, or M1 holds
+-- there and M2 fails. Of M3: M1 and M2 hold everywhere, and the two ordered lists agree before its row and differ
+-- there. Own.
 unfoldable pub IsFirstFault : List Pair → List Pair → ListFault → Type 0
 IsFirstFault accesses sorted fault =
     ((fault.number ≡ 1) × HoldsBefore sorted fault.row × FailsAt (λ x y. m1 x y ≡ 0) sorted fault.row)

@@ -33,12 +33,12 @@ pub record AreFillers (m : Memory) (accesses fill : List Pair) : Type 0 where
   pub fillers : map numbers_of fill ≡ map (filler_at m) (unaccessed accesses least greatest)
 
 -- The most fillers. Own.
-abbrev pub fill_limit : ℕ
-fill_limit = 2 ^ 21
+abbrev pub most_fillers : ℕ
+most_fillers = 2 ^ 21
 
 -- Why there are no columns: the fillers would be more than the limit, between these addresses. Want of memory has no
 -- cause. Own.
 unfoldable pub IsCause : List Pair → SortFault → Type 0
 IsCause accesses (TooWide least greatest) =
-    Spans accesses least.number greatest.number × (fill_limit < length (unaccessed accesses least.number greatest.number))
+    Spans accesses least.number greatest.number × (most_fillers < length (unaccessed accesses least.number greatest.number))
 IsCause accesses WantOfMemory = ⊤

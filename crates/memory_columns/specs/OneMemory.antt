@@ -6,8 +6,8 @@ use Rattle.casm_word.specs.Transition.{Memory}
 
 -- The memory read off pairs: at each address the value at its first place. The whitepaper proves of its nondeterministic
 -- continuous read-only memory that there is one; here it is read off.
-unfoldable pub memory_of : List Pair → Memory
-memory_of pairs a = option_map (λ p. p.value.number) (find (λ p. p.addr.number == a) pairs)
+unfoldable pub memory_of_pairs : List Pair → Memory
+memory_of_pairs pairs a = option_map (λ p. p.value.number) (find (λ p. p.addr.number == a) pairs)
 
 -- The memory has the value of each cell at the cell's address. Own.
 unfoldable pub Holds : Memory → List Pair → Type 0
@@ -21,11 +21,11 @@ OneValueEach cells = (x y : Pair) → Contains cells x → Contains cells y → 
 unfoldable pub IsBetween : ℕ → ℕ → ℕ → Type 0
 IsBetween low high a = (a < prime) × (field_sub a low ≤ field_sub high low)
 
--- The accesses are to one read-only memory, the one read off the sorted pairs: equal addresses have equal values, the
--- memory holds each access, and it has a value exactly at the addresses from the first pair's to the last pair's. The
+-- The accesses are to one read-only memory, the one read off the sorted pairs. Equal addresses have equal values, and
+-- the memory holds each access. It has a value exactly at the addresses from the first pair's to the last pair's. The
 -- whitepaper's nondeterministic continuous read-only memory.
 pub record AreOneMemory (accesses sorted : List Pair) : Type 0 where
   pub one_value : OneValueEach accesses
-  pub holds : Holds (memory_of sorted) accesses
+  pub holds : Holds (memory_of_pairs sorted) accesses
   pub between : (first last : Pair) → slice_get sorted 0 ≡ Some first → slice_get sorted (length sorted - 1) ≡ Some last →
-      (a : ℕ) → IsSome (memory_of sorted a) ↔ IsBetween first.addr.number last.addr.number a
+      (a : ℕ) → IsSome (memory_of_pairs sorted a) ↔ IsBetween first.addr.number last.addr.number a

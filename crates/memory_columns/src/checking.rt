@@ -13,8 +13,8 @@ use std::alloc::{AllocError, Global};
 
 /// The first failure of M1 and M2, by row and then by number, or else that of M3; `None` exactly where none fails.
 ///
-/// The accesses contain the fillers. Where none fails, the accesses are to one read-only memory: the one that
-/// [`MemoryColumns::read`](crate::MemoryColumns::read) reads off the sorted pairs.
+/// The accesses contain the fillers. Where none fails and `sorted` is shorter than p, the accesses are to one read-only
+/// memory: the one that [`MemoryColumns::read`](crate::MemoryColumns::read) reads off the sorted pairs.
 pub fn memory_fault(
     alloc: Global,
     accesses: Vec<Pair>,

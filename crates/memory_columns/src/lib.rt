@@ -21,21 +21,21 @@ pub struct MemoryColumns {
 
 impl MemoryColumns {
     ghost use Rattle.std.specs.Prelude.{◌≡◌, option_map};
-    ghost use Rattle.memory_columns.specs.OneMemory.{memory_of};
+    ghost use Rattle.memory_columns.specs.OneMemory.{memory_of_pairs};
 
     /// The value at the first place of the address `a` in the sorted pairs, or `None` where it has none.
-    #[tactic(auto, unfolding(crate::specs::OneMemory::memory_of))]
+    #[tactic(auto, unfolding(crate::specs::OneMemory::memory_of_pairs))]
     pub fn read(&self, a: Felt) -> Option<Felt>
-        ensures { option_map (λ x. x.number) result ≡ memory_of self.now.sorted.items a.number }
+        ensures { option_map (λ x. x.number) result ≡ memory_of_pairs self.now.sorted.items a.number }
     {
         self.sorted.iter().find(|x| x.addr == a).map(|x| x.value)
     }
 }
 
 impl Reads for MemoryColumns {
-    ghost use Rattle.memory_columns.specs.OneMemory.{memory_of};
+    ghost use Rattle.memory_columns.specs.OneMemory.{memory_of_pairs};
 
-    ghost cells = { λ columns. memory_of columns.sorted.items };
+    ghost cells = { λ columns. memory_of_pairs columns.sorted.items };
 
     fn read(&self, a: Felt) -> Option<Felt> {
         MemoryColumns::read(self, a)

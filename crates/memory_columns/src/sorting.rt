@@ -6,7 +6,7 @@ ghost use Rattle.std.specs.List.Sorted.{IsNonDecreasingBy};
 ghost use Rattle.sorted_lists.specs.Order.{in_order};
 ghost use Rattle.memory_columns.specs.Equations.{pair_cmp, first_memory_fault};
 ghost use Rattle.memory_columns.specs.OneMemory.{OneValueEach};
-ghost use Rattle.memory_columns.specs.Filling.{AreFillers, IsCause, fill_limit, filler_at, numbers_of, unaccessed};
+ghost use Rattle.memory_columns.specs.Filling.{AreFillers, IsCause, most_fillers, filler_at, numbers_of, unaccessed};
 
 use crate::{MemoryColumns, SortFault};
 use casm_word::Reads;
@@ -17,8 +17,8 @@ use std::alloc::{AllocError, Global};
 /// The most fillers.
 const FILL_LIMIT: u64 = 2097152;
 
-/// The columns of the accesses: the fillers are the cells between the least and the greatest accessed address that are
-/// never accessed, by ascending address, with the memory's value or 0.
+/// The columns of the accesses, of which there has to be one. The fillers are the cells between the least and the
+/// greatest accessed address that are never accessed. They go by ascending address, each with the memory's value or 0.
 ///
 /// [`SortFault::TooWide`] exactly where the fillers would be more than 2^21.
 pub fn sort_columns<M: Reads>(
@@ -29,7 +29,7 @@ pub fn sort_columns<M: Reads>(
     requires { 0 < vec_len accesses }
     ensures fill { IfOk result (λ c. AreFillers (M.cells m.now) accesses.items c.fill.items) }
     ensures sorted { IfOk result (λ c. c.sorted.items ≡ in_order pair_cmp (accesses.items ++ c.fill.items)) }
-    ensures room { IfOk result (λ c. length c.fill.items ≤ fill_limit) }
+    ensures room { IfOk result (λ c. length c.fill.items ≤ most_fillers) }
     ensures too_wide { IfErr result (IsCause accesses.items) }
 
     // What is made has no fault, where the accesses are to one memory.

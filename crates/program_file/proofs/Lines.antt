@@ -8,10 +8,11 @@ use Rattle.program_file.specs.declared.faults.ProgramKey.TheVariants as key
 use Rattle.program_file.specs.declared.faults.ProgramFault.{ProgramFault}
 use Rattle.program_file.specs.declared.faults.ProgramFault.TheVariants as fault
 use Rattle.program_file.specs.declared.Program.{Program}
-use Rattle.program_file.specs.Listing.{Listing, listing, word_limit}
+use Rattle.program_file.specs.Listing.{Listing, listing}
 use Rattle.program_file.specs.Format.{prime_text}
 use Rattle.program_file.specs.Reading.{reading, word_in, builtins_in}
 use Rattle.program_file.specs.Parts.{prime_part, words_part, builtins_part, bounds_part, value_part}
+use Rattle.program_file.specs.Limits.{most_words}
 
 assoc : {A B C F : Type 0} (m : Result A F) (f : A → Result B F) (g : B → Result C F) → (m >>= f) >>= g ≡ m >>= λ a. f a >>= g
 assoc (Ok a) f g = refl
@@ -27,7 +28,7 @@ after_json top = do
   prime ← needed (fault.Key key.Prime) (text_at (codes "prime") top)
   _ ← demand fault.Prime (bytes_eq prime prime_text)
   texts ← needed (fault.Key key.Words) (list_at (codes "data") top)
-  _ ← demand fault.TooLong (nat_le (length texts) word_limit)
+  _ ← demand fault.TooLong (nat_le (length texts) most_words)
   words ← in_turn word_in [] texts
   start ← needed (fault.Key key.Start) (whole_at (codes "start") top)
   end ← needed (fault.Key key.End) (whole_at (codes "end") top)
@@ -44,8 +45,8 @@ value_part-after_json top =
     ∙ next (needed (fault.Key key.Prime) (text_at (codes "prime") top)) (λ prime. next (demand fault.Prime (bytes_eq prime prime_text)) (λ _.
     assoc (needed (fault.Key key.Words) (list_at (codes "data") top)) _ _
     ∙ next (needed (fault.Key key.Words) (list_at (codes "data") top)) (λ texts.
-    assoc (demand fault.TooLong (nat_le (length texts) word_limit)) _ _
-    ∙ next (demand fault.TooLong (nat_le (length texts) word_limit)) (λ _. next (in_turn word_in [] texts) (λ words.
+    assoc (demand fault.TooLong (nat_le (length texts) most_words)) _ _
+    ∙ next (demand fault.TooLong (nat_le (length texts) most_words)) (λ _. next (in_turn word_in [] texts) (λ words.
     next (needed (fault.Key key.Start) (whole_at (codes "start") top)) (λ start.
     next (needed (fault.Key key.End) (whole_at (codes "end") top)) (λ end.
     assoc (needed (fault.Key key.Builtins) (list_at (codes "builtins") top)) _ _)))))))

@@ -11,10 +11,11 @@ use Rattle.json_fields.proofs.Steps.{needed_then, demand_then, ok_then, in_turn_
 use Rattle.program_file.specs.declared.faults.ProgramFault.{ProgramFault}
 use Rattle.program_file.specs.declared.faults.ProgramFault.TheVariants as fault
 use Rattle.program_file.specs.declared.Program.{Program}
-use Rattle.program_file.specs.Listing.{Listing, listing, word_limit}
-use Rattle.program_file.specs.Format.{Spells, prime_text}
+use Rattle.program_file.specs.Listing.{Listing, listing}
+use Rattle.program_file.specs.Format.{SpellsProgram, prime_text}
 use Rattle.program_file.specs.Reading.{reading, word_in}
 use Rattle.program_file.proofs.BuiltinLists.{builtins_in-names, names-builtins_in}
+use Rattle.program_file.specs.Limits.{most_words}
 
 alone : (before : List Felt) (d : Data) → word_in before d ≡ needed (fault.Felt (length before)) (felt_in d)
 unfolding word_in
@@ -23,19 +24,19 @@ alone before d = refl
 same_length : (texts : List Data) (words : List Felt) → map felt_in texts ≡ map Some words → length texts ≡ length words
 same_length texts words e = sym (length-map texts felt_in) ∙ ap length e ∙ length-map words Some
 
-few_words : (texts : List Data) (words : List Felt) → map felt_in texts ≡ map Some words → length texts ≤ word_limit → length words ≤ word_limit
+few_words : (texts : List Data) (words : List Felt) → map felt_in texts ≡ map Some words → length texts ≤ most_words → length words ≤ most_words
 few_words texts words e h = omega (arith, same_length texts words e)
 
-pub reading-Spells : (bytes : List ℕ) (p : Listing) → Spells bytes p → reading bytes ≡ Ok p
+pub reading-SpellsProgram : (bytes : List ℕ) (p : Listing) → SpellsProgram bytes p → reading bytes ≡ Ok p
 unfolding reading needed demand
-reading-Spells bytes p h =
-    let few : length h.texts ≤ word_limit = omega (arith, same_length h.texts p.words h.words_are, h.program.few_words) in
+reading-SpellsProgram bytes p h =
+    let few : length h.texts ≤ most_words = omega (arith, same_length h.texts p.words h.words_are, h.program.few_words) in
     let words : in_turn word_in [] h.texts ≡ Ok p.words = in_turn_back word_in fault.Felt felt_in alone [] h.texts p.words h.words_are in
     rw (
       h.is_json,
       h.prime_is,
       h.data_is,
-      le-leb (length h.texts) word_limit few,
+      le-leb (length h.texts) most_words few,
       words,
       h.start_is,
       h.end_is,
@@ -48,9 +49,9 @@ reading-Spells bytes p h =
 ok_value : {A F : Type 0} (a b : A) → ◌≡◌ {A = Result A F} (Ok a) (Ok b) → a ≡ b
 ok_value a b e = cc
 
-pub Spells-reading : (bytes : List ℕ) (p : Listing) → reading bytes ≡ Ok p → Spells bytes p
+pub SpellsProgram-reading : (bytes : List ℕ) (p : Listing) → reading bytes ≡ Ok p → SpellsProgram bytes p
 unfolding reading
-Spells-reading bytes p e =
+SpellsProgram-reading bytes p e =
     let top = needed_then _ _ _ _ e in
     let prime = needed_then _ _ _ _ top.2 in
     let is_prime = demand_then _ _ _ _ prime.2 in
@@ -66,9 +67,9 @@ Spells-reading bytes p e =
     let read = in_turn_ok word_in fault.Felt felt_in alone [] texts.0 words.0 words.1 in
     let these : words.0 ≡ read.0 = read.1 in
     let words_are : map felt_in texts.0 ≡ map Some words.0 = read.2 ∙ ap (map Some) (sym these) in
-    let small : length texts.0 ≤ word_limit = leb-true _ _ few.0 in
+    let small : length texts.0 ≤ most_words = leb-true _ _ few.0 in
     let found : Listing = record { words = words.0; start = start.0; end = end.0; builtins = builtins.0 } in
-    let spelled : Spells bytes found = record {
+    let spelled : SpellsProgram bytes found = record {
       top = top.0;
       is_json = top.1;
       prime_is = prime.1 ∙ ap Some ((bytes_eq-Decides prime.0 prime_text).0 is_prime.0);
@@ -84,23 +85,23 @@ Spells-reading bytes p e =
         end_inside = ltb-true _ _ end_low.0;
       };
     } in
-    subst (Spells bytes) (ok_value found p end_low.1) spelled
+    subst (SpellsProgram bytes) (ok_value found p end_low.1) spelled
 
-pub one_program : (bytes : List ℕ) (p q : Listing) → Spells bytes p → Spells bytes q → p ≡ q
-one_program bytes p q h k = ok_value p q (sym (reading-Spells bytes p h) ∙ reading-Spells bytes q k)
+pub one_program : (bytes : List ℕ) (p q : Listing) → SpellsProgram bytes p → SpellsProgram bytes q → p ≡ q
+one_program bytes p q h k = ok_value p q (sym (reading-SpellsProgram bytes p h) ∙ reading-SpellsProgram bytes q k)
 
 -- ---- what reading answers
 
-pub answer_spells : (bytes : List ℕ) (r : Result Program ProgramFault) → IfOk r (λ p. reading bytes ≡ Ok (listing p)) → IfOk r (λ p. Spells bytes (listing p))
-answer_spells bytes (Ok p) h = Spells-reading bytes (listing p) h
+pub answer_spells : (bytes : List ℕ) (r : Result Program ProgramFault) → IfOk r (λ p. reading bytes ≡ Ok (listing p)) → IfOk r (λ p. SpellsProgram bytes (listing p))
+answer_spells bytes (Ok p) h = SpellsProgram-reading bytes (listing p) h
 answer_spells bytes (Err f) h = tt
 
 differ : {A F : Type 0} (a : A) (f : F) → ◌≡◌ {A = Result A F} (Ok a) (Err f) → ⊥
 differ a f e = cc
 
-pub fault_spells_nothing : (bytes : List ℕ) (f : ProgramFault) → reading bytes ≡ Err f → (p : Listing) → Spells bytes p → ⊥
-fault_spells_nothing bytes f e p h = differ p f (sym (reading-Spells bytes p h) ∙ e)
+pub fault_spells_nothing : (bytes : List ℕ) (f : ProgramFault) → reading bytes ≡ Err f → (p : Listing) → SpellsProgram bytes p → ⊥
+fault_spells_nothing bytes f e p h = differ p f (sym (reading-SpellsProgram bytes p h) ∙ e)
 
-pub answer_spells_nothing : (bytes : List ℕ) (r : Result Program ProgramFault) → IfErr r (λ f. f ≢ fault.Memory → reading bytes ≡ Err f) → IfErr r (λ f. f ≢ fault.Memory → (p : Listing) → Spells bytes p → ⊥)
+pub answer_spells_nothing : (bytes : List ℕ) (r : Result Program ProgramFault) → IfErr r (λ f. f ≢ fault.Memory → reading bytes ≡ Err f) → IfErr r (λ f. f ≢ fault.Memory → (p : Listing) → SpellsProgram bytes p → ⊥)
 answer_spells_nothing bytes (Ok p) h = tt
 answer_spells_nothing bytes (Err f) h = λ known. fault_spells_nothing bytes f (h known)

@@ -16,7 +16,7 @@ use Rattle.json_fields.proofs.Parts.{ArePlain-items_of, items_depth-items_of, ma
 use Rattle.json_fields.proofs.WrittenTokens.{Adds, and_then, value_written}
 use Rattle.program_file.specs.Listing.{Listing, IsProgram}
 use Rattle.program_file.specs.Parts.{WritesName}
-use Rattle.program_file.specs.Format.{Spells, prime_text, builtin_names, program_json, written}
+use Rattle.program_file.specs.Format.{SpellsProgram, prime_text, builtin_names, program_json, written}
 use Rattle.program_file.proofs.BuiltinLists.{ArePlain-names}
 
 module _ (p : Listing) where
@@ -51,9 +51,9 @@ module _ (p : Listing) where
   shallow =
       omega (arith, items_depth-items_of string 0 (λ s. omega arith) (builtin_names p.builtins), items_depth-items_of felt_json 0 (λ x. omega arith) p.words)
 
-  pub Spells-written : IsProgram p → Spells (written p) p
+  pub SpellsProgram-written : IsProgram p → SpellsProgram (written p) p
   unfolding program_json written text_at list_at whole_at
-  Spells-written h = record {
+  SpellsProgram-written h = record {
     top = program_json p;
     is_json = json_of-compact_text (program_json p) (plain h) shallow;
     prime_is = refl;

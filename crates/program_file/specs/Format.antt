@@ -18,7 +18,7 @@ builtin_names uses =
 
 -- The bytes are this program: JSON whose keys hold the field's order, the words as texts, the two places and the names of
 -- the builtins. What stands at other keys is passed over. Own.
-pub record Spells (bytes : List ℕ) (p : Listing) : Type 0 where
+pub record SpellsProgram (bytes : List ℕ) (p : Listing) : Type 0 where
   pub top : Data
   pub is_json : json_of bytes ≡ Some top
   pub prime_is : text_at (codes "prime") top ≡ Some prime_text

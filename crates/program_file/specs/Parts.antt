@@ -11,9 +11,10 @@ use Rattle.program_file.specs.declared.Builtins.{Builtins}
 use Rattle.program_file.specs.declared.faults.ProgramKey.TheVariants as key
 use Rattle.program_file.specs.declared.faults.ProgramFault.{ProgramFault}
 use Rattle.program_file.specs.declared.faults.ProgramFault.TheVariants as fault
-use Rattle.program_file.specs.Listing.{Listing, word_limit}
+use Rattle.program_file.specs.Listing.{Listing}
 use Rattle.program_file.specs.Format.{prime_text}
 use Rattle.program_file.specs.Reading.{word_in, builtins_in}
+use Rattle.program_file.specs.Limits.{most_words}
 
 -- The lines on the field's order. Own.
 unfoldable pub prime_part : Data → Result ⊤ ProgramFault
@@ -25,7 +26,7 @@ prime_part top = do
 unfoldable pub words_part : Data → Result (List Felt) ProgramFault
 words_part top = do
   texts ← needed (fault.Key key.Words) (list_at (codes "data") top)
-  _ ← demand fault.TooLong (nat_le (length texts) word_limit)
+  _ ← demand fault.TooLong (nat_le (length texts) most_words)
   in_turn word_in [] texts
 
 -- The lines on the builtins. Own.

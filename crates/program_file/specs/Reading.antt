@@ -10,8 +10,9 @@ use Rattle.program_file.specs.declared.Builtins.{Builtins}
 use Rattle.program_file.specs.declared.faults.ProgramKey.TheVariants as key
 use Rattle.program_file.specs.declared.faults.ProgramFault.{ProgramFault}
 use Rattle.program_file.specs.declared.faults.ProgramFault.TheVariants as fault
-use Rattle.program_file.specs.Listing.{Listing, word_limit}
+use Rattle.program_file.specs.Listing.{Listing}
 use Rattle.program_file.specs.Format.{prime_text, builtin_names}
+use Rattle.program_file.specs.Limits.{most_words}
 
 -- Whether there is a text and it is this one. Own.
 abbrev pub is_same_text : List ℕ → Option (List ℕ) → Bool
@@ -49,7 +50,7 @@ reading bytes = do
   prime ← needed (fault.Key key.Prime) (text_at (codes "prime") top)
   _ ← demand fault.Prime (bytes_eq prime prime_text)
   texts ← needed (fault.Key key.Words) (list_at (codes "data") top)
-  _ ← demand fault.TooLong (nat_le (length texts) word_limit)
+  _ ← demand fault.TooLong (nat_le (length texts) most_words)
   words ← in_turn word_in [] texts
   start ← needed (fault.Key key.Start) (whole_at (codes "start") top)
   end ← needed (fault.Key key.End) (whole_at (codes "end") top)

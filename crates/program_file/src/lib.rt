@@ -2,6 +2,7 @@
 #![tactic(auto)]
 
 ghost use Rattle.std.specs.Prelude.{◌<◌, ◌≤◌, ◌^◌, length};
+ghost use Rattle.program_file.specs.Limits.{most_words};
 
 mod faults;
 pub mod laws;
@@ -35,7 +36,7 @@ pub struct Program {
     start: u32,
     end: u32,
     builtins: Builtins,
-    pub ghost few_words: { length words.items ≤ 2 ^ 18 },
+    pub ghost few_words: { length words.items ≤ most_words },
     pub ghost start_inside: { start < length words.items },
     pub ghost end_inside: { end < length words.items },
 }

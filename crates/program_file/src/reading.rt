@@ -1,15 +1,16 @@
 //! Reading a program file.
 
-ghost use Rattle.std.specs.Prelude.{◌≡◌, ◌≢◌, ◌≤◌, ◌^◌, [], Ok, Err, IfOk, IfErr, map, length};
+ghost use Rattle.std.specs.Prelude.{◌≡◌, ◌≢◌, ◌≤◌, [], Ok, Err, IfOk, IfErr, map, length};
 ghost use Rattle.serde_json.specs.View.{view};
 ghost use Rattle.serde_json.specs.Find.{as_str};
 ghost use Rattle.json_fields.specs.Faults.{in_turn};
 ghost use Rattle.program_file.specs.Listing.{Listing, listing};
-ghost use Rattle.program_file.specs.Format.{Spells};
+ghost use Rattle.program_file.specs.Format.{SpellsProgram};
 ghost use Rattle.program_file.specs.Reading.{reading, word_in, is_same_text};
 ghost use Rattle.program_file.specs.Reading as lines;
 ghost use Rattle.program_file.specs.Parts.{prime_part, words_part, builtins_part, bounds_part, value_part};
 ghost use Rattle.program_file.specs.declared.faults.ProgramFault.{ProgramFault};
+ghost use Rattle.program_file.specs.Limits.{most_words};
 
 use crate::{Builtins, Program, ProgramFault, ProgramKey, WORD_LIMIT};
 use goldilocks::Felt;
@@ -29,8 +30,8 @@ pub fn read(alloc: Global, bytes: &[u8]) -> Result<Program, ProgramFault>
     ensures fault { IfErr result (λ f. f ≢ ProgramFault.Memory → reading bytes.now ≡ Err f) }
 
     // So the bytes are that program, and where there is a fault they are none.
-    ensures spells { IfOk result (λ p. Spells bytes.now (listing p)) }
-    ensures spells_nothing { IfErr result (λ f. f ≢ ProgramFault.Memory → (p : Listing) → ¬ Spells bytes.now p) }
+    ensures spells { IfOk result (λ p. SpellsProgram bytes.now (listing p)) }
+    ensures spells_nothing { IfErr result (λ f. f ≢ ProgramFault.Memory → (p : Listing) → ¬ SpellsProgram bytes.now p) }
 {
     let Some(top) = read_json(alloc, bytes)? else {
         return Err(ProgramFault::Json);
@@ -75,7 +76,7 @@ fn read_prime(top: &Value) -> Result<(), ProgramFault>
 #[tactic(auto, unfolding(crate::specs::Parts::words_part, json_fields::specs::Faults::needed, json_fields::specs::Faults::demand))]
 fn read_words(alloc: Global, top: &Value) -> Result<Vec<Felt>, ProgramFault>
     ensures words { IfOk result (λ words. words_part (view top.now) ≡ Ok words.items) }
-    ensures few { IfOk result (λ words. length words.items ≤ 2 ^ 18) }
+    ensures few { IfOk result (λ words. length words.items ≤ most_words) }
     ensures fault { IfErr result (λ f. f ≢ ProgramFault.Memory → words_part (view top.now) ≡ Err f) }
 {
     let Some(texts) = list_at(top, "data") else {
@@ -89,7 +90,7 @@ fn read_words(alloc: Global, top: &Value) -> Result<Vec<Felt>, ProgramFault>
 
 /// The words of these entries.
 fn read_entries(alloc: Global, texts: &[Value]) -> Result<Vec<Felt>, ProgramFault>
-    requires { length texts.now ≤ 2 ^ 18 }
+    requires { length texts.now ≤ most_words }
     ensures words { IfOk result (λ words. in_turn word_in [] (map view texts.now) ≡ Ok words.items) }
     ensures count { IfOk result (λ words. length words.items ≡ length texts.now) }
     ensures fault { IfErr result (λ f. f ≢ ProgramFault.Memory → in_turn word_in [] (map view texts.now) ≡ Err f) }
@@ -153,7 +154,7 @@ fn bounded(
     end: u64,
     builtins: Builtins,
 ) -> Result<Program, ProgramFault>
-    requires { length words.items ≤ 2 ^ 18 }
+    requires { length words.items ≤ most_words }
     ensures program { IfOk result (λ p. bounds_part words.items start end builtins ≡ Ok (listing p)) }
     ensures fault { IfErr result (λ f. bounds_part words.items start end builtins ≡ Err f) }
 {

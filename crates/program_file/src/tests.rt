@@ -531,7 +531,7 @@ fn written_files_are_read_and_written_again(rt: HostRuntime) -> Result<(), Fail>
         let program = read(rt.alloc(), text.as_bytes())?;
         assert_eq!(rt; shown(&program), expected, "{text}");
         let bytes = write(rt.alloc(), &program)?;
-        assert_eq!(rt; bytes.as_slice(), text.as_bytes());
+        assert_eq!(rt; bytes.as_slice(), text.as_bytes(), "{text}: the bytes");
     }
     Ok(())
 }
@@ -599,7 +599,11 @@ fn programs_keep_their_bounds(rt: HostRuntime) -> Result<(), Fail> {
         let program = Program::new(words, start, end, builtins);
         assert_eq!(rt; program.is_some(), is_program, "{count} {start} {end}");
         if let Some(program) = program {
-            assert_eq!(rt; shown(&program), (count, 1, 1, start, end, false, true));
+            assert_eq!(rt;
+                shown(&program),
+                (count, 1, 1, start, end, false, true),
+                "{count} {start} {end}: the program"
+            );
         }
     }
     assert_eq!(rt; WORD_LIMIT, 262144);

@@ -3,7 +3,7 @@ ghost use Rattle.std.specs.Prelude.{◌≡◌, Ok, IfOk, OnOk, map};
 ghost use Rattle.serde_json.specs.Data.{string};
 ghost use Rattle.json_fields.specs.Encoding.{WritesValue, list_json};
 ghost use Rattle.program_file.specs.Listing.{listing};
-ghost use Rattle.program_file.specs.Format.{Spells, written, program_json, builtin_names};
+ghost use Rattle.program_file.specs.Format.{SpellsProgram, written, program_json, builtin_names};
 ghost use Rattle.program_file.specs.Reading.{reading};
 ghost use Rattle.program_file.specs.Parts.{WritesName};
 
@@ -25,7 +25,7 @@ const FRAME_SIZE: usize = 128;
 /// [`crate::read`] gives the program back.
 pub fn write(alloc: Global, program: &Program) -> Result<Vec<u8>, AllocError>
     ensures written { IfOk result (λ bytes. bytes.items ≡ written (listing program.now)) }
-    ensures spells { IfOk result (λ bytes. Spells bytes.items (listing program.now)) }
+    ensures spells { IfOk result (λ bytes. SpellsProgram bytes.items (listing program.now)) }
     ensures read_back { IfOk result (λ bytes. reading bytes.items ≡ Ok (listing program.now)) }
 {
     let size = WORD_SIZE * program.words().len() + FRAME_SIZE;

@@ -1,5 +1,5 @@
 -- What is read from bytes, or the first fault: line by line, in the order in which the faults count.
-use Rattle.std.specs.Prelude.{ℕ, ◌-◌, ◌^◌, List, [], length, Bool, true, nat_lt, nat_le, Option, Some, None, slice_get, Result, Ok}
+use Rattle.std.specs.Prelude.{ℕ, ◌-◌, List, [], length, Bool, true, nat_lt, nat_le, Option, Some, None, slice_get, Result, Ok}
 use Rattle.goldilocks.specs.declared.Felt.{Felt}
 use Rattle.goldilocks.specs.declared.Pair.{Pair}
 use Rattle.serde_json.specs.Data.{Data}
@@ -11,6 +11,7 @@ use Rattle.public_input.specs.declared.fault.PublicFault.{PublicFault}
 use Rattle.public_input.specs.declared.fault.PublicFault.TheVariants.{Json, Key, Range, TooMany, Cell, Order}
 use Rattle.public_input.specs.Shown.{key_name}
 use Rattle.public_input.specs.Statement.{Statement}
+use Rattle.public_input.specs.Valid.{step_limit, small_bound, range_cell_limit, public_cell_limit}
 
 -- The whole number under a key. Own.
 unfoldable pub whole_under : PublicKey → Data → Result ℕ PublicFault
@@ -25,14 +26,14 @@ unfoldable pub steps_in : Data → Result ℕ PublicFault
 steps_in top = do
   steps ← whole_under Steps top
   _ ← demand (Range Steps) (nat_lt 0 steps)
-  _ ← demand TooMany (nat_le steps (2 ^ 20))
+  _ ← demand TooMany (nat_le steps step_limit)
   Ok steps
 
 -- The greatest small value, beside the least. Own.
 unfoldable pub rc_max_in : ℕ → Data → Result ℕ PublicFault
 rc_max_in rc_min top = do
   rc_max ← whole_under RcMax top
-  _ ← demand (Range RcMax) (nat_lt rc_max (2 ^ 16))
+  _ ← demand (Range RcMax) (nat_lt rc_max small_bound)
   _ ← demand (Range RcMin) (nat_le rc_min rc_max)
   Ok rc_max
 
@@ -40,7 +41,7 @@ rc_max_in rc_min top = do
 unfoldable pub range_count_in : Data → Result ℕ PublicFault
 range_count_in top = do
   range_count ← whole_under RangeCount top
-  _ ← demand TooMany (nat_le range_count (2 ^ 18))
+  _ ← demand TooMany (nat_le range_count range_cell_limit)
   Ok range_count
 
 -- Whether an address is above that of the cell before, where there is one. Own.
@@ -59,7 +60,7 @@ next_cell before entry = do
 unfoldable pub cells_in : Data → Result (List Pair) PublicFault
 cells_in top = do
   entries ← needed (Key Cells) (list_at (key_name Cells) top)
-  _ ← demand TooMany (nat_le (length entries) (2 ^ 18))
+  _ ← demand TooMany (nat_le (length entries) public_cell_limit)
   in_turn next_cell [] entries
 
 -- What the value of a JSON text says, or the first fault. Own.

@@ -26,8 +26,8 @@ pub enum PublicKey {
     Cells,
 }
 
-/// Why bytes are no public file. The first fault counts: that of the bytes as a whole, then that of each key in the
-/// order of [`PublicKey`], and last those of the cells, one cell after another.
+/// Why bytes are no public file. The first fault counts. First is that of the bytes as a whole, then that of each key
+/// in the order of [`PublicKey`]. Last are those of the cells, one cell after another.
 #[derive(Clone, Copy, Debug, PartialEq, Eq)]
 pub enum PublicFault {
     /// The bytes are no JSON text, or nest too deep.

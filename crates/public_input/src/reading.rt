@@ -1,10 +1,10 @@
 //! Reading a public file.
-ghost use Rattle.std.specs.Prelude.{◌≡◌, ◌≢◌, ◌<◌, ◌≤◌, ◌^◌, ◌-◌, [], ◌∷◌, ◌++◌, map, length, IfOk, IfErr, OnOk, slice_get};
+ghost use Rattle.std.specs.Prelude.{◌≡◌, ◌≢◌, ◌<◌, ◌≤◌, ◌-◌, [], ◌∷◌, ◌++◌, map, length, IfOk, IfErr, OnOk, slice_get};
 ghost use Rattle.serde_json.specs.View.{view};
 ghost use Rattle.json_fields.specs.Faults.{in_turn};
 ghost use Rattle.public_input.specs.declared.fault.PublicFault.{PublicFault};
 ghost use Rattle.public_input.specs.Statement.{Statement, statement};
-ghost use Rattle.public_input.specs.Valid.{IsValid};
+ghost use Rattle.public_input.specs.Valid.{IsValid, public_cell_limit};
 ghost use Rattle.public_input.specs.Spelling.{SpellsPublic};
 ghost use Rattle.public_input.specs.Reading as lines;
 ghost use Rattle.public_input.specs.Reading.{reading};
@@ -145,7 +145,7 @@ fn read_cells(alloc: Global, top: &Value) -> Result<Vec<Pair>, PublicFault>
 /// The cells that the entries are.
 #[tactic(auto, unfolding(json_fields::specs::Faults::in_turn))]
 fn read_entries(alloc: Global, entries: &[Value]) -> Result<Vec<Pair>, PublicFault>
-    requires { length entries.now ≤ 2 ^ 18 }
+    requires { length entries.now ≤ public_cell_limit }
     ensures { Gives (λ cells. cells.items) (in_turn lines.next_cell [] (map view entries.now)) result }
 {
     let mut cells = Vec::with_capacity(alloc, entries.len())?;
@@ -167,7 +167,7 @@ fn push(cells: &mut Vec<Pair>, cell: Pair) -> Result<(), AllocError>
 /// The cell of an entry, after the cells of the entries before.
 #[tactic(auto, unfolding(crate::specs::Reading::next_cell, json_fields::specs::Faults::needed, json_fields::specs::Faults::demand))]
 fn read_cell(before: &[Pair], entry: &Value) -> Result<Pair, PublicFault>
-    requires { length before.now ≤ 2 ^ 18 }
+    requires { length before.now ≤ public_cell_limit }
     ensures { result ≡ lines.next_cell before.now (view entry.now) }
 {
     let index = before.len() as u32;

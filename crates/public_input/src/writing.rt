@@ -15,7 +15,7 @@ use json_fields::{write_felt, write_pairs};
 use std::alloc::{AllocError, Global};
 
 /// The bytes of the file that spells the public input: JSON with no space, and the keys in the order of their names.
-/// The only error is want of memory.
+/// The public input is valid, and the only error is want of memory.
 pub fn write(alloc: Global, p: &Public) -> Result<Vec<u8>, AllocError>
     requires valid { IsValid p.now }
     ensures written { IfOk result (λ out. out.items ≡ written (statement p.now)) }

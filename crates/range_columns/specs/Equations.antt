@@ -1,12 +1,12 @@
 -- The equations of the range columns, on all small values and on the sorted ones. "The whitepaper" is Cairo's, ePrint
 -- 2021/1063. It compares the two lists by a random product; here they are compared exactly.
-use Rattle.std.specs.Prelude.{ℕ, ◌≡◌, ◌≢◌, ◌⊎◌, ◌+◌, ◌-◌, ◌<◌, ◌≤◌, Bool, false, ◌==◌, List, length, take, Option, Some, None, option_map, if◌then◌else◌, slice_get, slice_index_or}
+use Rattle.std.specs.Prelude.{ℕ, ◌≡◌, ◌⊎◌, ◌+◌, ◌-◌, ◌<◌, ◌≤◌, Bool, false, ◌==◌, List, length, Option, Some, None, option_map, if◌then◌else◌, slice_get, slice_index_or}
 use Rattle.std.specs.List.{AllAdjacentBelow}
 use Rattle.std.specs.Option.{option_or}
 use Rattle.std.specs.Ordering.{nat_cmp}
 use Rattle.std.specs.declared.cmp.Ordering.{Ordering}
 use Rattle.goldilocks.specs.declared.Felt.{Felt}
-use Rattle.sorted_lists.specs.Order.{in_order}
+use Rattle.sorted_lists.specs.Order.{in_order, DiffersFirstAt}
 use Rattle.sorted_lists.specs.Difference.{list_difference}
 use Rattle.sorted_lists.specs.Climbing.{climb, AllNeighbours, first_between}
 use Rattle.range_columns.specs.declared.RangeFault.{RangeFault}
@@ -19,10 +19,11 @@ felt_cmp x y = nat_cmp x.number y.number
 abbrev pub is_same_felt : Felt → Felt → Bool
 is_same_felt x y = x.number == y.number
 
--- The first and the last number of a list, where it has one. Own.
+-- The first number of a list, where it has one. Own.
 abbrev pub first_number : List Felt → Option ℕ
 first_number sorted = option_map (λ q. q.number) (slice_get sorted 0)
 
+-- The last number of a list, where it has one. Own.
 abbrev pub last_number : List Felt → Option ℕ
 last_number sorted = option_map (λ q. q.number) (slice_get sorted (length sorted - 1))
 
@@ -89,10 +90,6 @@ StepsBefore sorted row = AllAdjacentBelow (λ x y. climb x.number y.number ≡ 0
 -- Q2 fails between the value at the row and the next. Own.
 abbrev pub StepFailsAt : List Felt → ℕ → Type 0
 StepFailsAt sorted row = (row + 1 < length sorted) × ((d : Felt) → climb (slice_index_or sorted row d).number (slice_index_or sorted (row + 1) d).number ≡ 0 → ⊥)
-
--- Two lists agree before the place and differ there, where one of them may end. Own.
-abbrev pub DiffersFirstAt : List Felt → List Felt → ℕ → Type 0
-DiffersFirstAt xs ys place = (take place xs ≡ take place ys) × (slice_get xs place ≢ slice_get ys place)
 
 -- The fault is the first: all equations before it hold, Q2 up to its row, and it fails at its row. Own.
 unfoldable pub IsFirstFault : List Felt → List Felt → ℕ → ℕ → RangeFault → Type 0

@@ -15,6 +15,10 @@ V1 r = r.value.number ≡ joined_limbs r
 unfoldable pub meets_v1 : RangeRow → Bool
 meets_v1 r = r.value.number == joined_limbs r
 
+-- A range cell is below this number, for three limbs of 16 bits have 48. Own.
+abbrev pub range_bound : ℕ
+range_bound = 2 ^ 48
+
 -- Each limb has 16 bits. Own.
 pub record HasNarrowLimbs (r : RangeRow) : Type 0 where
   pub l0 : r.l0.number < 2 ^ 16

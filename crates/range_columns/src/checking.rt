@@ -11,7 +11,8 @@ use std::alloc::{AllocError, Global};
 
 /// The first failure in the order Q1, Q2 by row, Q3, Q4; `None` exactly where none fails.
 ///
-/// The values contain the fillers. Where none fails, each value lies from `min` to `max`.
+/// The values contain the fillers, `sorted` isn't empty, and `min` <= `max` < 2^16. Where none fails and `sorted` is
+/// shorter than p, each value lies from `min` to `max`.
 pub fn range_fault(
     alloc: Global,
     values: Vec<Felt>,

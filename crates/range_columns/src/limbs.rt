@@ -1,7 +1,7 @@
 //! Range cells cut into limbs.
 
 ghost use Rattle.std.specs.Prelude.{◌≡◌, ◌<◌, ◌^◌, ◌↔◌, not, All, IfSome, IsSome, IsNone, position};
-ghost use Rattle.range_columns.specs.Limbs.{V1, meets_v1, HasNarrowLimbs, IsSplitOf};
+ghost use Rattle.range_columns.specs.Limbs.{V1, meets_v1, HasNarrowLimbs, IsSplitOf, range_bound};
 
 use crate::RangeRow;
 use goldilocks::Felt;
@@ -11,7 +11,7 @@ const BASE: u64 = 65536;
 
 /// The number cut into its three limbs of 16 bits, or `None` exactly where it is 2^48 or more.
 pub fn split(value: Felt) -> Option<RangeRow>
-    ensures some { IsSome result ↔ (value.number < 2 ^ 48) }
+    ensures some { IsSome result ↔ (value.number < range_bound) }
     ensures limbs { IfSome result (IsSplitOf value.number) }
 
     // What is cut meets the equation, with narrow limbs.
@@ -40,7 +40,7 @@ pub fn limb_fault(rows: &[RangeRow]) -> Option<usize>
     ensures none { IsNone result ↔ All V1 rows.now }
 
     // Where no row fails and the limbs have 16 bits, each range cell has 48.
-    ensures narrow { IsNone result → All HasNarrowLimbs rows.now → All (λ r. r.value.number < 2 ^ 48) rows.now }
+    ensures narrow { IsNone result → All HasNarrowLimbs rows.now → All (λ r. r.value.number < range_bound) rows.now }
 {
     first_other(rows)
 }

@@ -11,6 +11,8 @@ use sorted_lists::gaps;
 use std::alloc::{AllocError, Global};
 
 /// The columns of the values: the fillers are the numbers from `min` to `max` that are absent, ascending.
+///
+/// `min` <= `max` < 2^16, and all values lie between.
 pub fn sort_range(
     alloc: Global,
     values: Vec<Felt>,

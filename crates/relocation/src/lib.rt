@@ -32,7 +32,7 @@ pub fn bases(alloc: Global, s: &Segments) -> Result<Vec<u64>, AllocError>
 }
 
 /// The number that a value is where the segments lie at these bases: a number is itself, and a pointer is its segment's
-/// base plus its offset.
+/// base plus its offset. A pointer's segment has a base, and bases are at most 2^21 + 1.
 pub fn relocate_value(bases: &[u64], v: Value) -> Felt
     requires based { HasBase bases.now v }
     requires low { All (λ b. b ≤ 2 ^ 21 + 1) bases.now }

@@ -7,12 +7,13 @@ use Rattle.std.proofs.lemmas.Int.{ints}
 use Rattle.goldilocks.specs.Field.{prime, field_add, field_sub, field_mul, field_neg, field_of_int}
 use Rattle.goldilocks.proofs.FieldLaws.{field_add_below, field_sub_below, field_mul_below, field_add_comm, quotient_is}
 use Rattle.goldilocks.proofs.Prime.{inverse_of}
+use Rattle.goldilocks.specs.Felts.{felt}
 use Rattle.segments.specs.declared.Place.{Place}
 use Rattle.segments.specs.declared.Value.{Value}
 use Rattle.segments.specs.declared.Value.TheVariants.{Num, Ptr}
 use Rattle.segments.specs.declared.arithmetic.ArithFault.{ArithFault}
 use Rattle.segments.specs.declared.arithmetic.ArithFault.TheVariants.{OffsetRange, OtherSegment, DivByZero}
-use Rattle.segments.specs.Values.{place, felt, number, pointer, value_sum, value_difference, value_product, value_quotient, field_quotient, place_at, moved_place}
+use Rattle.segments.specs.Values.{place, number, pointer, value_sum, value_difference, value_product, value_quotient, field_quotient, place_at, moved_place}
 use Rattle.segments.specs.Memory.{cell_limit}
 use Rattle.segments.specs.Relocation.{base, address, relocated}
 use Rattle.segments.proofs.Values.{field_quotient_is}
@@ -20,7 +21,7 @@ use Rattle.segments.proofs.Addresses.{base_within}
 
 -- a number relocates to itself
 relocated-number : (sizes : List ℕ) (n : ℕ) → relocated sizes (number n) ≡ n % prime
-unfolding relocated number felt
+unfolding relocated number
 relocated-number sizes n = refl
 
 -- a pointer that is in range relocates to its address

@@ -8,21 +8,15 @@ use Rattle.std.specs.List.{range_with_len}
 use Rattle.goldilocks.specs.declared.Felt.{Felt}
 use Rattle.goldilocks.specs.Field.{prime, field_mul}
 use Rattle.goldilocks.proofs.FieldLaws.{field_mul_cancel, field_mul_comm}
+use Rattle.goldilocks.specs.Felts.{felt}
+use Rattle.goldilocks.proofs.Pairs.{same_felt}
 use Rattle.segments.specs.declared.Value.{Value}
 use Rattle.segments.specs.declared.Value.TheVariants.{Num, Ptr}
-use Rattle.segments.specs.Values.{felt, number, numbers_below, field_quotient, place, same_value}
-
--- a value of the field is determined by its number
-pub same_felt : (x y : Felt) → x.number ≡ y.number → x ≡ y
-same_felt x y e =
-    let unique : IsProp (x.number < prime) = hlevel props in
-    let P : ℕ → Type 0 = λ n. (below : n < prime) → x ≡ record { number = n; in_field = below } in
-    let at_x : P x.number = λ below. ap (λ (h : x.number < prime). record { number = x.number; in_field = h }) (unique x.in_field below) in
-    subst P e at_x y.in_field
+use Rattle.segments.specs.Values.{number, numbers_below, field_quotient, place, same_value}
 
 -- a number that is below p is the value of the field that it is
 pub num_is_number : (x : Felt) (n : ℕ) → x.number ≡ n → Num x ≡ number n
-unfolding felt number
+unfolding number
 num_is_number x n e =
     let same : x ≡ felt n = same_felt x (felt n) (sym (mod-eq_of_lt x.in_field) ∙ ap (λ k. k % prime) e) in
     ap (λ t. Num t) same

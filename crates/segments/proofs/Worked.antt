@@ -3,24 +3,25 @@ use Rattle.std.proofs.Common.{◌≡◌, [], ◌∷◌, Some, None, refl}
 use Rattle.std.specs.Prelude.{pos, negsuc, Ok, Err}
 use Rattle.std.specs.FinMap.{from_entries}
 use Rattle.goldilocks.specs.Field.{field_add, field_sub}
+use Rattle.goldilocks.specs.Felts.{felt}
 use Rattle.segments.specs.declared.Value.TheVariants.{Ptr}
 use Rattle.segments.specs.declared.arithmetic.ArithFault.TheVariants.{TwoPointers, OffsetRange, NumberMinusPointer, OtherSegment, PointerProduct, PointerQuotient, DivByZero}
 use Rattle.segments.specs.declared.memory.PutCause.TheVariants.{NoSegment, Fixed, CellLimit, Conflict}
-use Rattle.segments.specs.Values.{place, felt, number, pointer, value_sum, value_difference, value_product, value_quotient, place_at, moved_place, same_value}
+use Rattle.segments.specs.Values.{place, number, pointer, value_sum, value_difference, value_product, value_quotient, place_at, moved_place, same_value}
 use Rattle.segments.specs.Memory.{RunMemory, size, has_segment, names_segment, sizes_with, conflict, put_cause}
 use Rattle.segments.specs.Relocation.{base, address, relocated, segment_bases}
 
 -- a pointer and p - 2: two cells back
 back_by_two : value_sum (Ptr (place 1 5)) (number 18446744069414584319) ≡ Ok (Ptr (place 1 3))
-unfolding value_sum number felt pointer field_add
+unfolding value_sum number pointer field_add
 back_by_two = refl
 
 too_far_back : value_sum (number 18446744069414584319) (Ptr (place 1 1)) ≡ Err OffsetRange
-unfolding value_sum number felt pointer field_add
+unfolding value_sum number pointer field_add
 too_far_back = refl
 
 too_far_on : value_sum (Ptr (place 1 4294967295)) (number 1) ≡ Err OffsetRange
-unfolding value_sum number felt pointer field_add
+unfolding value_sum number pointer field_add
 too_far_on = refl
 
 two_pointers : value_sum (Ptr (place 1 5)) (Ptr (place 1 5)) ≡ Err TwoPointers
@@ -41,11 +42,11 @@ unfolding value_difference number
 number_minus_pointer = refl
 
 below_the_segment : value_difference (Ptr (place 1 3)) (number 4) ≡ Err OffsetRange
-unfolding value_difference number felt pointer field_sub
+unfolding value_difference number pointer field_sub
 below_the_segment = refl
 
 minus_minus_one : value_difference (Ptr (place 1 3)) (number 18446744069414584320) ≡ Ok (Ptr (place 1 4))
-unfolding value_difference number felt pointer field_sub
+unfolding value_difference number pointer field_sub
 minus_minus_one = refl
 
 pointer_product : value_product (number 5) (Ptr (place 2 0)) ≡ Err PointerProduct
@@ -53,7 +54,7 @@ unfolding value_product number
 pointer_product = refl
 
 six_by_zero : value_quotient (number 6) (number 0) ≡ Err DivByZero
-unfolding value_quotient number felt
+unfolding value_quotient number
 six_by_zero = refl
 
 pointer_by_zero : value_quotient (Ptr (place 2 0)) (number 0) ≡ Err PointerQuotient
@@ -98,11 +99,11 @@ unfolding nine_words size sizes_with
 the_last_cell = refl
 
 another_value : conflict (Some (number 5)) (number 6) ≡ Some (Conflict (number 5))
-unfolding conflict same_value number felt
+unfolding conflict same_value number
 another_value = refl
 
 same_value_again : conflict (Some (number 5)) (number 5) ≡ None
-unfolding conflict same_value number felt
+unfolding conflict same_value number
 same_value_again = refl
 
 three_bases : segment_bases (9 ∷ 5 ∷ 0 ∷ []) ≡ 1 ∷ 10 ∷ 15 ∷ []

@@ -4,10 +4,8 @@ use Rattle.std.specs.Prelude.{ℕ, ◌%◌, ◌^◌, ℤ, pos, negsuc, ◌+ℤ�
 use Rattle.std.specs.Ordering.{nat_cmp, ordering_then}
 use Rattle.std.specs.declared.cmp.Ordering.{Ordering}
 use Rattle.std.specs.List.{range_with_len}
-use Rattle.std.proofs.Common.{lit<}
-use Rattle.std.proofs.Math.Nat.{mod-lt}
-use Rattle.goldilocks.specs.declared.Felt.{Felt}
 use Rattle.goldilocks.specs.Field.{prime, field_add, field_sub, field_mul}
+use Rattle.goldilocks.specs.Felts.{felt}
 use Rattle.segments.specs.declared.Place.{Place}
 use Rattle.segments.specs.declared.Value.{Value}
 use Rattle.segments.specs.declared.Value.TheVariants.{Num, Ptr}
@@ -21,10 +19,6 @@ place_cmp p q = ordering_then (nat_cmp p.seg q.seg) (nat_cmp p.off q.off)
 -- The place with this segment and this offset. Own.
 abbrev pub place : ℕ → ℕ → Place
 place seg off = record { seg = seg; off = off }
-
--- A whole number as a value of the field. Own.
-unfoldable pub felt : ℕ → Felt
-felt n = record { number = n % prime; in_field = mod-lt n (lit< tt) }
 
 -- The numbers below n. Own.
 unfoldable pub numbers_below : ℕ → List ℕ

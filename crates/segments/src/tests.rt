@@ -163,7 +163,8 @@ fn places_move_and_print(rt: HostRuntime) -> Result<(), Fail> {
         (ptr(2, 17), "2:17"),
         (ptr(0, 4294967295), "0:4294967295"),
     ] {
-        assert_eq!(rt; format!(in alloc; "{value}")?.as_str(), want);
+        let text = format!(in alloc; "{value}")?;
+        assert_eq!(rt; text.as_str(), want, "{value:?}: the text");
     }
     assert_eq!(rt; format!(in alloc; "{}", at(3, 0))?.as_str(), "3:0");
     for (cause, want) in [
@@ -173,7 +174,8 @@ fn places_move_and_print(rt: HostRuntime) -> Result<(), Fail> {
         (PutCause::Conflict(num(&rt, 5)), "Conflict 5"),
         (PutCause::Conflict(ptr(2, 1)), "Conflict 2:1"),
     ] {
-        assert_eq!(rt; format!(in alloc; "{cause}")?.as_str(), want);
+        let text = format!(in alloc; "{cause}")?;
+        assert_eq!(rt; text.as_str(), want, "{cause:?}: the text");
     }
     for (fault, want) in [
         (ArithFault::TwoPointers, "TwoPointers"),
@@ -184,7 +186,8 @@ fn places_move_and_print(rt: HostRuntime) -> Result<(), Fail> {
         (ArithFault::PointerQuotient, "PointerQuotient"),
         (ArithFault::DivByZero, "DivByZero"),
     ] {
-        assert_eq!(rt; format!(in alloc; "{fault}")?.as_str(), want);
+        let text = format!(in alloc; "{fault}")?;
+        assert_eq!(rt; text.as_str(), want, "{fault:?}: the text");
     }
     Ok(())
 }
@@ -204,7 +207,7 @@ fn follow(rt: &impl Abort, alloc: Global, s: &mut Segments, steps: &[Step]) {
     for (i, step) in steps.iter().enumerate() {
         match *step {
             Step::Add(want) => {
-                assert!(rt; s.count() < SEGMENT_LIMIT);
+                assert!(rt; s.count() < SEGMENT_LIMIT, "step {i}");
                 assert_eq!(rt; s.add_segment(alloc), Ok(want), "step {i}");
             }
             Step::Put(place, value, want) => {
@@ -328,8 +331,8 @@ fn fill(alloc: Global, s: &mut Segments, seg: u32) -> Result<Option<Value>, PutF
 fn two_million_cells(rt: HostRuntime) -> Result<(), Fail> {
     let mut s = nine_words(&rt, rt.alloc())?;
     for seg in 1..65538 {
-        assert!(rt; s.count() < SEGMENT_LIMIT);
-        assert_eq!(rt; s.add_segment(rt.alloc())?, seg);
+        assert!(rt; s.count() < SEGMENT_LIMIT, "segment {seg}");
+        assert_eq!(rt; s.add_segment(rt.alloc())?, seg, "segment {seg}");
     }
     assert_eq!(rt;
         fill(rt.alloc(), &mut s, 65537),

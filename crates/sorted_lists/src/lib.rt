@@ -44,9 +44,10 @@ fn first_unequal<T: PartialEq>(left: &[T], right: &[T]) -> Option<usize>
 }
 
 /// The first place where two lists differ once both are in order, or the length of the shorter one where all its items
-/// are the other's first ones; `None` exactly where the ordered lists are equal.
+/// are the other's first ones. It is `None` exactly where the ordered lists are equal.
 ///
-/// Memory is taken only where `right` isn't in order already, for its copy.
+/// Items that compare as equal have to be equal. Memory is taken only where `right` isn't in order already, for its
+/// copy.
 pub fn order_difference<T: Ord + Copy>(
     alloc: Global,
     mut left: Vec<T>,

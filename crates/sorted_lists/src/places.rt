@@ -40,6 +40,8 @@ impl Place for Pair {
 }
 
 /// How many numbers from `low` to `high` there are at which none of the items stands.
+///
+/// The items ascend and stand from `low` to `high`, and `low` is at most `high`.
 pub fn gap_count<T: Place>(ordered: &[T], low: Felt, high: Felt) -> u64
     requires range { low.number ≤ high.number }
     requires ascends { IsNonDecreasingBy T.place ordered.now }
@@ -57,6 +59,8 @@ pub fn gap_count<T: Place>(ordered: &[T], low: Felt, high: Felt) -> u64
 }
 
 /// The numbers from `low` to `high` at which none of the items stands, ascending.
+///
+/// The items ascend and stand from `low` to `high`, and `low` is at most `high`.
 pub fn gaps<T: Place>(
     alloc: Global,
     ordered: &[T],

@@ -6,6 +6,7 @@ use Rattle.casm_word.specs.Transition.{Memory, Registers}
 use Rattle.program_file.specs.Listing.{Listing, IsProgram}
 use Rattle.public_input.specs.Statement.{Statement}
 use Rattle.public_input.specs.Valid.{KeepsLimits}
+use Rattle.trace_files.specs.TraceFile.{IsState}
 use Rattle.table_file.specs.Tables.{Contents, AreValid}
 use Rattle.constraint_checker.specs.Constraints.{MeetsAll}
 use Rattle.table_builder.specs.Columns.{tables_of}
@@ -17,7 +18,7 @@ use Rattle.table_builder.proofs.Made.{made_valid, made_sixteen, made_meets}
 
 module _ (program : Listing) (public : Statement) (m : Memory) (states : List Registers)
     (values : (a v : ℕ) → m a ≡ Some v → v < prime)
-    (registers_small : All (λ s. (s.pc < prime) × (s.ap < prime) × (s.fp < prime)) states)
+    (registers_small : All IsState states)
     (is_program : IsProgram program) (limits : KeepsLimits public) (some : 2 ≤ length states)
     (tables : Contents) (built : building program public m states ≡ Ok tables) where
   answers : Answered program public m states

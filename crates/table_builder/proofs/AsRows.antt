@@ -6,15 +6,15 @@ use Rattle.std.proofs.lemmas.List.{length-map}
 use Rattle.std.specs.List.{AllByRecursion}
 use Rattle.std.proofs.lemmas.List.Elements.{All-head, All-tail, All-from_recursion, recursion_from_All}
 use Rattle.goldilocks.specs.Field.{prime}
+use Rattle.goldilocks.specs.Felts.{felt}
 use Rattle.casm_word.specs.Transition.{Registers, registers}
 use Rattle.cpu_rows.specs.Columns.{Columns, columns, values, IsInField, IsRow}
-use Rattle.constraint_checker.specs.Lists.{felt_of}
 use Rattle.table_builder.specs.Rows.{as_row, as_state}
 
-pub numbers-felt_of : (ns : List ℕ) → All (λ n. n < prime) ns → map (λ x. x.number) (map felt_of ns) ≡ ns
-numbers-felt_of [] all = refl
-numbers-felt_of (n ∷ ns) all =
-    ap₂ (λ x xs. x ∷ xs) (mod-eq_of_lt (All-head (λ n. n < prime) n ns all)) (numbers-felt_of ns (All-tail (λ n. n < prime) n ns all))
+pub numbers-felt : (ns : List ℕ) → All (λ n. n < prime) ns → map (λ x. x.number) (map felt ns) ≡ ns
+numbers-felt [] all = refl
+numbers-felt (n ∷ ns) all =
+    ap₂ (λ x xs. x ∷ xs) (mod-eq_of_lt (All-head (λ n. n < prime) n ns all)) (numbers-felt ns (All-tail (λ n. n < prime) n ns all))
 
 -- the registers as a state
 pub registers-as_state : (s : Registers) → s.pc < prime → s.ap < prime → s.fp < prime → registers (as_state s) ≡ s
@@ -39,7 +39,7 @@ columns-as_row c low =
     let back : List ℕ = c.off_dst ∷ c.off_op0 ∷ c.off_op1 ∷ c.dst_addr ∷ c.op0_addr ∷ c.op1_addr ∷ c.dst ∷ c.op0 ∷ c.op1 ∷ c.mul ∷ c.res ∷ c.t0 ∷ c.t1 ∷ [] in
     let parts = all_split P c.tilde back front.1.1.1.1 in
     let b = parts.1 in
-    let tilde_same = numbers-felt_of c.tilde (All-from_recursion P c.tilde parts.0) in
+    let tilde_same = numbers-felt c.tilde (All-from_recursion P c.tilde parts.0) in
     let pc_same = mod-eq_of_lt front.0 in
     let ap_same = mod-eq_of_lt front.1.0 in
     let fp_same = mod-eq_of_lt front.1.1.0 in
@@ -80,4 +80,4 @@ columns-as_row c low =
 
 pub sixteen-as_row : (c : Columns) → IsRow c → length (as_row c).tilde ≡ 16
 unfolding as_row
-sixteen-as_row c is = length-map c.tilde felt_of ∙ is.sixteen
+sixteen-as_row c is = length-map c.tilde felt ∙ is.sixteen

@@ -4,14 +4,16 @@ use Rattle.std.proofs.lemmas.Bool.{lt-ltb, le-ltb}
 use Rattle.std.proofs.lemmas.List.{length-map}
 use Rattle.goldilocks.specs.declared.Felt.{Felt}
 use Rattle.goldilocks.specs.declared.Pair.{Pair}
+use Rattle.goldilocks.specs.Felts.{felt}
 use Rattle.casm_word.specs.Transition.{Memory}
-use Rattle.memory_columns.specs.Filling.{Spans, AreFillers, unaccessed, numbers_of, filler_at, fill_limit}
+use Rattle.memory_columns.specs.Filling.{Spans, AreFillers, unaccessed, numbers_of, filler_at, most_fillers}
 use Rattle.memory_columns.proofs.Fillings.{map-map}
 use Rattle.program_file.specs.Listing.{Listing}
 use Rattle.public_input.specs.Statement.{Statement}
+use Rattle.public_input.specs.Valid.{addresses}
 use Rattle.table_file.specs.Tables.{Contents}
-use Rattle.constraint_checker.specs.Lists.{felt_of, cell, accesses}
-use Rattle.table_builder.specs.Columns.{least, greatest, addresses, cells_at, free_addresses}
+use Rattle.constraint_checker.specs.Lists.{cell, accesses}
+use Rattle.table_builder.specs.Columns.{least, greatest, cells_at, free_addresses}
 use Rattle.table_builder.specs.Findings.{TooWide, width_finding}
 use Rattle.table_builder.proofs.BuiltRow.{felt_back, felts_back}
 use Rattle.table_builder.proofs.Counts.{length-accesses}
@@ -19,7 +21,7 @@ use Rattle.table_builder.proofs.Spans.{spans_least, spans_greatest}
 
 -- two numbers as a cell
 abbrev as_pair : ℕ × ℕ → Pair
-as_pair p = cell (felt_of p.0) (felt_of p.1)
+as_pair p = cell (felt p.0) (felt p.1)
 
 pairs_back : (fill : List Pair) → map as_pair (map numbers_of fill) ≡ fill
 pairs_back [] = refl
@@ -40,21 +42,21 @@ module _ (m : Memory) (accessed fill : List Pair) (are : AreFillers m accessed f
   pub fillers_built : fill ≡ cells_at m (free_addresses accessed)
   fillers_built = cells_from_numbers m fill (free_addresses accessed) (are.fillers ∙ ap (map (filler_at m)) (sym (free_between accessed are.least are.greatest are.spans)))
 
-  pub not_too_wide : length fill ≤ fill_limit → width_finding accessed ≡ None
+  pub not_too_wide : length fill ≤ most_fillers → width_finding accessed ≡ None
   unfolding width_finding cells_at
   not_too_wide few =
       let count : length fill ≡ length (free_addresses accessed) = ap length fillers_built ∙ length-map (free_addresses accessed) (λ a. as_pair (filler_at m a)) in
-      ap (λ b. if b then Some (TooWide (least (addresses accessed)) (greatest (addresses accessed))) else None) (le-ltb fill_limit (length (free_addresses accessed)) (omega (arith, count)))
+      ap (λ b. if b then Some (TooWide (least (addresses accessed)) (greatest (addresses accessed))) else None) (le-ltb most_fillers (length (free_addresses accessed)) (omega (arith, count)))
 
-pub too_wide : (accessed : List Pair) (low high : ℕ) → Spans accessed low high → fill_limit < length (unaccessed accessed low high) → width_finding accessed ≡ Some (TooWide low high)
+pub too_wide : (accessed : List Pair) (low high : ℕ) → Spans accessed low high → most_fillers < length (unaccessed accessed low high) → width_finding accessed ≡ Some (TooWide low high)
 unfolding width_finding
 too_wide accessed low high spans many =
-    let more : fill_limit < length (free_addresses accessed) = omega (arith, ap length (free_between accessed low high spans)) in
-    ap (λ b. if b then Some (TooWide (least (addresses accessed)) (greatest (addresses accessed))) else None) (lt-ltb fill_limit (length (free_addresses accessed)) more)
+    let more : most_fillers < length (free_addresses accessed) = omega (arith, ap length (free_between accessed low high spans)) in
+    ap (λ b. if b then Some (TooWide (least (addresses accessed)) (greatest (addresses accessed))) else None) (lt-ltb most_fillers (length (free_addresses accessed)) more)
     ∙ ap₂ (λ l h. Some (TooWide l h)) (spans_least accessed low high spans) (spans_greatest accessed low high spans)
 
-pub absent_built : (fill : List Felt) (absent : List ℕ) → map (λ x. x.number) fill ≡ absent → fill ≡ map felt_of absent
-absent_built fill absent is = sym (felts_back fill) ∙ ap (map felt_of) is
+pub absent_built : (fill : List Felt) (absent : List ℕ) → map (λ x. x.number) fill ≡ absent → fill ≡ map felt absent
+absent_built fill absent is = sym (felts_back fill) ∙ ap (map felt) is
 
 -- a program has a word, so some cell is accessed
 pub some_access : (program : Listing) (public : Statement) (tables : Contents) → program.start < length program.words → 0 < length (accesses program public tables)

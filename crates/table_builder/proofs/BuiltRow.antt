@@ -4,23 +4,23 @@ use Rattle.std.proofs.Math.Nat.{mod-eq_of_lt}
 use Rattle.goldilocks.specs.Field.{prime}
 use Rattle.goldilocks.specs.declared.Felt.{Felt}
 use Rattle.goldilocks.proofs.Pairs.{same_felt}
+use Rattle.goldilocks.specs.Felts.{felt}
 use Rattle.casm_word.specs.Transition.{Memory, Registers}
 use Rattle.cpu_rows.specs.declared.Row.{Row}
 use Rattle.cpu_rows.specs.Columns.{Columns, columns, numbers}
 use Rattle.cpu_rows.specs.Steps.{IsRowOf, row_of}
 use Rattle.cpu_rows.proofs.BuiltRows.{IsRowOf-from_parts}
 use Rattle.cpu_rows.proofs.RowOfStep.{one_row_of}
-use Rattle.constraint_checker.specs.Lists.{felt_of}
 use Rattle.table_builder.specs.Rows.{row_at, as_row, res_column}
 use Rattle.table_builder.proofs.StepRows.{row_at-is, IsRes-res_column}
 
-pub felt_is : (x : Felt) (n : ℕ) → x.number ≡ n → n < prime → x ≡ felt_of n
-felt_is x n is low = same_felt x (felt_of n) (is ∙ sym (mod-eq_of_lt low))
+pub felt_is : (x : Felt) (n : ℕ) → x.number ≡ n → n < prime → x ≡ felt n
+felt_is x n is low = same_felt x (felt n) (is ∙ sym (mod-eq_of_lt low))
 
-pub felt_back : (x : Felt) → felt_of x.number ≡ x
+pub felt_back : (x : Felt) → felt x.number ≡ x
 felt_back x = sym (felt_is x x.number refl x.in_field)
 
-pub felts_back : (xs : List Felt) → map felt_of (numbers xs) ≡ xs
+pub felts_back : (xs : List Felt) → map felt (numbers xs) ≡ xs
 felts_back [] = refl
 felts_back (x ∷ xs) = ap₂ (λ y ys. y ∷ ys) (felt_back x) (felts_back xs)
 

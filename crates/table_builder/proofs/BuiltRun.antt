@@ -10,6 +10,7 @@ use Rattle.std.proofs.lemmas.List.Elements.{All-map}
 use Rattle.goldilocks.specs.Field.{prime}
 use Rattle.goldilocks.specs.declared.Felt.{Felt}
 use Rattle.goldilocks.specs.declared.Pair.{Pair}
+use Rattle.goldilocks.specs.Felts.{felt}
 use Rattle.casm_word.specs.declared.State.{State}
 use Rattle.casm_word.specs.Transition.{Memory, Registers, registers}
 use Rattle.cpu_rows.specs.declared.Row.{Row}
@@ -23,8 +24,9 @@ use Rattle.range_columns.specs.declared.RangeRow.{RangeRow}
 use Rattle.trace_files.specs.MemoryFile.{Cell, memory_of, as_cell, as_cells}
 use Rattle.program_file.specs.Listing.{Listing}
 use Rattle.public_input.specs.Statement.{Statement}
+use Rattle.trace_files.specs.TraceFile.{IsState}
 use Rattle.table_file.specs.Tables.{Contents}
-use Rattle.constraint_checker.specs.Lists.{felt_of, accesses, range_values}
+use Rattle.constraint_checker.specs.Lists.{accesses, range_values}
 use Rattle.table_builder.specs.declared.faults.BuildFault.{BuildFault}
 use Rattle.table_builder.specs.Rows.{row_at, as_row, rows_of, range_rows_of, last_of, as_state}
 use Rattle.table_builder.specs.Columns.{unsorted, reads, small_values, free_addresses, cells_at, tables_of}
@@ -42,9 +44,9 @@ refuses part built (Err e) fault ended goes told =
 
 -- ---- numbers of the field
 
-pub registers_low : (states : List State) → All (λ s. (s.pc < prime) × (s.ap < prime) × (s.fp < prime)) (map registers states)
+pub registers_low : (states : List State) → All IsState (map registers states)
 unfolding registers
-registers_low states = All-map (λ s. (s.pc < prime) × (s.ap < prime) × (s.fp < prime)) registers states (λ k d within. ((get_or states k d).pc.in_field, (get_or states k d).ap.in_field, (get_or states k d).fp.in_field))
+registers_low states = All-map IsState registers states (λ k d within. record { pc = (get_or states k d).pc.in_field; ap = (get_or states k d).ap.in_field; fp = (get_or states k d).fp.in_field })
 
 value_low : (x : Pair) (here : Bool) (later : Option Cell) (v : ℕ) → (option_map (λ (c : Cell). c.value) later ≡ Some v → v < prime) → option_map (λ (c : Cell). c.value) (if here then Some (as_cell x) else later) ≡ Some v → v < prime
 value_low x true later v behind is = let same : x.value.number ≡ v = cc in subst (λ n. n < prime) same x.value.in_field
@@ -93,9 +95,9 @@ module _ (program : Listing) (public : Statement) (m : Memory) (states : List Re
       let fill_same : cells_at m (free_addresses (reads program public m states)) ≡ fill = sym (memory.fillers ∙ ap (λ xs. cells_at m (free_addresses xs)) reads_are) in
       let pairs_same : in_order pair_cmp (reads program public m states ++ cells_at m (free_addresses (reads program public m states))) ≡ pairs =
       ap₂ (λ xs ys. in_order pair_cmp (xs ++ ys)) (sym reads_are) fill_same ∙ sym memory.in_turn in
-      let absent_same : map felt_of (absent_values (small_values public m states) public.rc_min public.rc_max) ≡ absent =
-      sym (small.fillers ∙ ap (λ vs. map felt_of (absent_values vs public.rc_min public.rc_max)) small_are) in
-      let sorted_same : in_order felt_cmp (small_values public m states ++ map felt_of (absent_values (small_values public m states) public.rc_min public.rc_max)) ≡ sorted =
+      let absent_same : map felt (absent_values (small_values public m states) public.rc_min public.rc_max) ≡ absent =
+      sym (small.fillers ∙ ap (λ vs. map felt (absent_values vs public.rc_min public.rc_max)) small_are) in
+      let sorted_same : in_order felt_cmp (small_values public m states ++ map felt (absent_values (small_values public m states) public.rc_min public.rc_max)) ≡ sorted =
       ap₂ (λ xs ys. in_order felt_cmp (xs ++ ys)) (sym small_are) absent_same ∙ sym small.in_turn in
       λ i. record {
         rows = rows_same i;

@@ -14,11 +14,11 @@ use Rattle.range_columns.specs.Limbs.{IsSplitOf}
 use Rattle.range_columns.specs.Equations.{felt_cmp}
 use Rattle.program_file.specs.Listing.{Listing}
 use Rattle.public_input.specs.Statement.{Statement}
-use Rattle.public_input.specs.Valid.{KeepsLimits}
+use Rattle.public_input.specs.Valid.{KeepsLimits, addresses}
 use Rattle.table_file.specs.Tables.{Contents}
 use Rattle.constraint_checker.specs.Lists.{program_cells, range_cells, accesses, range_values}
 use Rattle.table_builder.specs.Rows.{first_of, no_state, as_row, rows_of}
-use Rattle.table_builder.specs.Columns.{least, greatest, addresses, unsorted, reads, small_values, tables_of}
+use Rattle.table_builder.specs.Columns.{least, greatest, unsorted, reads, small_values, tables_of}
 use Rattle.table_builder.specs.Findings.{first_found, findings}
 use Rattle.table_builder.specs.Building.{building}
 use Rattle.table_builder.specs.TablesOf.{HasFieldValues, AreInField, AreTablesOf}

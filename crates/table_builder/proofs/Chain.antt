@@ -1,9 +1,10 @@
 -- What is found first in six groups of questions, and what is built for it.
 use Rattle.std.proofs.Common.{◌≡◌, List, [], ◌∷◌, ◌++◌, Option, Some, None, Ok, Err, refl, ap}
 use Rattle.casm_word.specs.Transition.{Memory, Registers}
+use Rattle.cpu_rows.specs.Columns.{numbers}
 use Rattle.program_file.specs.Listing.{Listing}
 use Rattle.public_input.specs.Statement.{Statement}
-use Rattle.table_builder.specs.Columns.{reads, small_values, numbers, tables_of}
+use Rattle.table_builder.specs.Columns.{reads, small_values, tables_of}
 use Rattle.table_builder.specs.Findings.{Finding, first_found, end_findings, step_finding, cell_findings, range_findings, limit_findings, width_finding, findings}
 use Rattle.table_builder.specs.Building.{unless_found, building}
 use Rattle.table_builder.proofs.Findings.{first_found-none_append, first_found-cons_none}

@@ -4,13 +4,14 @@ use Rattle.std.specs.List.{flat_map, range_with_len, enumerate_from}
 use Rattle.std.proofs.lemmas.List.{length-map}
 use Rattle.std.proofs.lemmas.List.FromFn.{length-range_with_len, length-enumerate_from}
 use Rattle.goldilocks.specs.declared.Felt.{Felt}
+use Rattle.goldilocks.specs.Felts.{felt}
 use Rattle.casm_word.specs.Transition.{Memory}
 use Rattle.cpu_rows.specs.declared.Row.{Row}
 use Rattle.range_columns.specs.declared.RangeRow.{RangeRow}
 use Rattle.program_file.specs.Listing.{Listing}
 use Rattle.public_input.specs.Statement.{Statement}
 use Rattle.table_file.specs.Tables.{Contents}
-use Rattle.constraint_checker.specs.Lists.{felt_of, cell, cells_from, row_cells, range_cells, program_cells, accesses, row_offsets, limbs, range_values}
+use Rattle.constraint_checker.specs.Lists.{cell, cells_from, row_cells, range_cells, program_cells, accesses, row_offsets, limbs, range_values}
 use Rattle.table_builder.specs.Rows.{range_address, limb_row, range_rows_of}
 
 -- pieces of one length
@@ -20,7 +21,7 @@ length-pieces piece n (x ∷ items) each = omega (arith, length-append (piece x)
 
 pub length-cells_from : (address : ℕ) (values : List Felt) → length (cells_from address values) ≡ length values
 unfolding cells_from
-length-cells_from address values = length-map (enumerate_from address values) (λ (at : ℕ × Felt). cell (felt_of at.0) at.1) ∙ length-enumerate_from address values
+length-cells_from address values = length-map (enumerate_from address values) (λ (at : ℕ × Felt). cell (felt at.0) at.1) ∙ length-enumerate_from address values
 
 pub length-range_rows_of : (public : Statement) (m : Memory) → length (range_rows_of public m) ≡ public.range_count
 unfolding range_rows_of

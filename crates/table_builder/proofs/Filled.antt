@@ -9,7 +9,9 @@ use Rattle.std.proofs.lemmas.List.FromFn.{length-range_with_len, get_or-range_wi
 use Rattle.goldilocks.specs.Field.{prime}
 use Rattle.goldilocks.specs.declared.Felt.{Felt}
 use Rattle.goldilocks.specs.declared.Pair.{Pair}
+use Rattle.goldilocks.specs.Felts.{felt}
 use Rattle.casm_word.specs.Transition.{Memory}
+use Rattle.cpu_rows.specs.Columns.{numbers}
 use Rattle.sorted_lists.specs.Order.{in_order}
 use Rattle.sorted_lists.specs.Gaps.{is_taken, gaps_between, absent}
 use Rattle.sorted_lists.proofs.Absent.{length-gaps-le}
@@ -20,10 +22,11 @@ use Rattle.memory_columns.proofs.Fillings.{no_fault as no_memory_fault}
 use Rattle.range_columns.specs.Equations.{felt_cmp, first_range_fault, IsWithin}
 use Rattle.range_columns.specs.Filling.{absent_values}
 use Rattle.range_columns.proofs.Fillings.{no_fault as no_range_fault}
-use Rattle.constraint_checker.specs.Lists.{felt_of, cell}
-use Rattle.table_builder.specs.Columns.{least, greatest, addresses, numbers, free_addresses, cells_at}
+use Rattle.public_input.specs.Valid.{addresses}
+use Rattle.constraint_checker.specs.Lists.{cell}
+use Rattle.table_builder.specs.Columns.{least, greatest, free_addresses, cells_at}
 use Rattle.table_builder.proofs.LeastGreatest.{any-here, any-later, least-reached, least-bounds, greatest-reached, greatest-bounds}
-use Rattle.table_builder.proofs.AsRows.{numbers-felt_of}
+use Rattle.table_builder.proofs.AsRows.{numbers-felt}
 
 -- ---- gaps lie between their ends
 
@@ -105,7 +108,7 @@ module _ (m : Memory) (low : (a v : ℕ) → m a ≡ Some v → v < prime) (cell
 
   pub length-fillers : length fillers ≡ length (free_addresses cells)
   unfolding cells_at
-  length-fillers = length-map (free_addresses cells) (λ a. cell (felt_of (filler_at m a).0) (felt_of (filler_at m a).1))
+  length-fillers = length-map (free_addresses cells) (λ a. cell (felt (filler_at m a).0) (felt (filler_at m a).1))
 
 -- ---- small values
 
@@ -121,19 +124,19 @@ small_within values low high above below k d within =
 
 module _ (values : List Felt) (low high : ℕ) (narrow : high < 2 ^ 16) where
   abbrev absent_felts : List Felt
-  absent_felts = map felt_of (absent_values values low high)
+  absent_felts = map felt (absent_values values low high)
 
   pub absent_are : map (λ x. x.number) absent_felts ≡ absent_values values low high
   unfolding absent_values
   absent_are =
-      numbers-felt_of (absent_values values low high)
+      numbers-felt (absent_values values low high)
       (All-weaker (λ n. (low ≤ n) × (n ≤ high)) (λ n. n < prime) (λ n both. let b = both.1 in omega arith) (absent_values values low high)
       (gaps_within (λ x. x.number) values low high))
 
   pub small_filled : low ≤ high → All (IsWithin low high) values → first_range_fault (values ++ absent_felts) (in_order felt_cmp (values ++ absent_felts)) low high ≡ None
   small_filled range within =
-      no_range_fault values absent_felts low high range within absent_are (in_order felt_cmp (values ++ absent_felts)) refl (felt_of 0)
+      no_range_fault values absent_felts low high range within absent_are (in_order felt_cmp (values ++ absent_felts)) refl (felt 0)
 
   pub length-absent : length absent_felts ≤ 2 ^ 16
   unfolding absent_values
-  length-absent = omega (arith, length-map (absent_values values low high) felt_of, length-gaps-le (λ (x : Felt). x.number) values low high)
+  length-absent = omega (arith, length-map (absent_values values low high) felt, length-gaps-le (λ (x : Felt). x.number) values low high)

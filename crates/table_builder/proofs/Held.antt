@@ -8,21 +8,23 @@ use Rattle.std.proofs.lemmas.List.Elements.{All-append, All-cons, All-head, All-
 use Rattle.goldilocks.specs.Field.{prime, field_add}
 use Rattle.goldilocks.specs.declared.Felt.{Felt}
 use Rattle.goldilocks.specs.declared.Pair.{Pair}
+use Rattle.goldilocks.specs.Felts.{felt}
 use Rattle.casm_word.specs.Transition.{Memory, Registers}
 use Rattle.casm_word.specs.Run.{steps, LegalRun}
 use Rattle.cpu_rows.specs.declared.Row.{Row}
 use Rattle.cpu_rows.specs.Columns.{Columns, columns}
-use Rattle.cpu_rows.specs.Steps.{HasCells, accesses as row_accesses}
+use Rattle.cpu_rows.specs.Steps.{HasCells, row_accesses}
 use Rattle.memory_columns.specs.OneMemory.{Holds, OneValueEach}
 use Rattle.range_columns.specs.declared.RangeRow.{RangeRow}
 use Rattle.program_file.specs.Listing.{Listing}
 use Rattle.public_input.specs.Statement.{Statement}
+use Rattle.trace_files.specs.TraceFile.{IsState}
 use Rattle.table_file.specs.Tables.{Contents}
-use Rattle.constraint_checker.specs.Lists.{felt_of, cell, cells_from, row_cells, range_cells, program_cells, accesses}
+use Rattle.constraint_checker.specs.Lists.{cell, cells_from, row_cells, range_cells, program_cells, accesses}
 use Rattle.table_builder.specs.Rows.{as_row, rows_of, range_address, limb_row, range_rows_of}
 use Rattle.table_builder.specs.Columns.{unsorted, reads}
 use Rattle.table_builder.proofs.AsRows.{columns-as_row}
-use Rattle.table_builder.proofs.RowsOfRun.{IsSmall, IsTold, columns_of, run_told}
+use Rattle.table_builder.proofs.RowsOfRun.{IsTold, columns_of, run_told}
 use Rattle.table_builder.proofs.NothingFound.{Has, HasRange, Answered}
 
 -- what holds of each piece holds of the pieces together
@@ -69,7 +71,7 @@ module _ (m : Memory) (public : Statement) where
       let behind = ranged_held (k + 1) n (All-tail (HasRange public m) k (range_with_len (k + 1) n) all) in
       let values : List Felt = map (λ r. r.value) (map ranged (range_with_len (k + 1) n)) in
       let next : begin + (k + 1) ≡ begin + k + 1 = omega arith in
-      All-cons (Has m) (cell (felt_of (begin + k)) (ranged k).value) (cells_from (begin + k + 1) values)
+      All-cons (Has m) (cell (felt (begin + k)) (ranged k).value) (cells_from (begin + k + 1) values)
       (kept_number (m (range_address public k)) has.0 has.1 has.2)
       (subst (λ a. All (Has m) (cells_from a values)) next behind)
 
@@ -99,7 +101,7 @@ one_value-held m cells all x y at_x at_y same =
     let one : Some x.value.number ≡ Some y.value.number = sym here ∙ (ap m same ∙ there) in
     cc
 
-module _ (program : Listing) (public : Statement) (m : Memory) (states : List Registers) (low : (a v : ℕ) → m a ≡ Some v → v < prime) (small : All IsSmall states) (run : LegalRun m states) (answers : Answered program public m states) where
+module _ (program : Listing) (public : Statement) (m : Memory) (states : List Registers) (low : (a v : ℕ) → m a ≡ Some v → v < prime) (small : All IsState states) (run : LegalRun m states) (answers : Answered program public m states) where
   pub reads_held : Holds m (reads program public m states)
   unfolding Holds reads accesses unsorted rows_of
   reads_held =

@@ -4,6 +4,7 @@ use Rattle.std.proofs.Math.Nat.{mod-eq_of_lt}
 use Rattle.goldilocks.specs.declared.Felt.{Felt}
 use Rattle.goldilocks.specs.declared.Pair.{Pair}
 use Rattle.goldilocks.proofs.Pairs.{same_felt}
+use Rattle.goldilocks.specs.Felts.{felt}
 use Rattle.casm_word.specs.declared.State.{State}
 use Rattle.casm_word.specs.Transition.{registers}
 use Rattle.cpu_rows.specs.declared.Row.{Row}
@@ -11,19 +12,19 @@ use Rattle.cpu_rows.specs.Columns.{columns}
 use Rattle.memory_columns.specs.Filling.{numbers_of}
 use Rattle.range_columns.specs.declared.RangeRow.{RangeRow}
 use Rattle.range_columns.specs.Limbs.{limb_at, IsSplitOf}
-use Rattle.constraint_checker.specs.Lists.{felt_of, cell}
+use Rattle.constraint_checker.specs.Lists.{cell}
 use Rattle.table_builder.specs.Rows.{as_state, as_row, limb_row}
 
-pub felt_kept : (x : Felt) → felt_of x.number ≡ x
-felt_kept x = same_felt (felt_of x.number) x (mod-eq_of_lt x.in_field)
+pub felt_kept : (x : Felt) → felt x.number ≡ x
+felt_kept x = same_felt (felt x.number) x (mod-eq_of_lt x.in_field)
 
-pub felts_kept : (xs : List Felt) → map felt_of (map (λ x. x.number) xs) ≡ xs
+pub felts_kept : (xs : List Felt) → map felt (map (λ x. x.number) xs) ≡ xs
 felts_kept [] = refl
 felts_kept (x ∷ xs) = ap₂ (λ y ys. y ∷ ys) (felt_kept x) (felts_kept xs)
 
 -- a value whose number is known
-pub felt_is : (x : Felt) (n : ℕ) → x.number ≡ n → x ≡ felt_of n
-felt_is x n is = sym (felt_kept x) ∙ ap felt_of is
+pub felt_is : (x : Felt) (n : ℕ) → x.number ≡ n → x ≡ felt n
+felt_is x n is = sym (felt_kept x) ∙ ap felt is
 
 pub row_kept : (r : Row) → as_row (columns r) ≡ r
 unfolding as_row columns
@@ -86,6 +87,6 @@ limbs_kept r split =
     λ i. record { value = value_same i; l0 = l0_same i; l1 = l1_same i; l2 = l2_same i }
 
 -- cells are those of their numbers
-pub cells_kept : (xs : List Pair) → map (λ (p : ℕ × ℕ). cell (felt_of p.0) (felt_of p.1)) (map numbers_of xs) ≡ xs
+pub cells_kept : (xs : List Pair) → map (λ (p : ℕ × ℕ). cell (felt p.0) (felt p.1)) (map numbers_of xs) ≡ xs
 cells_kept [] = refl
 cells_kept (x ∷ xs) = ap₂ (λ y ys. y ∷ ys) (ap₂ cell (felt_kept x.addr) (felt_kept x.value)) (cells_kept xs)

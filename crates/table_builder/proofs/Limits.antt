@@ -5,9 +5,10 @@ use Rattle.std.proofs.lemmas.Bool.{lt-ltb, le-ltb}
 use Rattle.std.proofs.lemmas.List.Elements.{All-map}
 use Rattle.goldilocks.specs.Field.{prime}
 use Rattle.goldilocks.specs.declared.Felt.{Felt}
+use Rattle.cpu_rows.specs.Columns.{numbers}
 use Rattle.public_input.specs.Statement.{Statement}
 use Rattle.table_builder.specs.declared.faults.Field.TheVariants.{RcMin, RcMax}
-use Rattle.table_builder.specs.Columns.{least, greatest, numbers}
+use Rattle.table_builder.specs.Columns.{least, greatest}
 use Rattle.table_builder.specs.Findings.{Finding, Mismatch, first_found, limit_findings}
 use Rattle.table_builder.proofs.LeastGreatest.{least-reached, greatest-reached, any-and_all}
 use Rattle.table_builder.proofs.Findings.{first_found-none_cons}

@@ -6,6 +6,7 @@ use Rattle.std.proofs.lemmas.List.Elements.{All-weaker}
 use Rattle.std.proofs.lemmas.List.Sorted.{length_permutation}
 use Rattle.goldilocks.specs.Field.{prime}
 use Rattle.goldilocks.specs.declared.Felt.{Felt}
+use Rattle.goldilocks.specs.Felts.{felt}
 use Rattle.casm_word.specs.Transition.{Memory, Registers, registers}
 use Rattle.casm_word.specs.Run.{LegalRun}
 use Rattle.casm_word.proofs.RefusedRuns.{first_refused-none}
@@ -20,13 +21,14 @@ use Rattle.range_columns.proofs.FirstFault.{no_fault_exactly as range_met}
 use Rattle.program_file.specs.Listing.{Listing, IsProgram}
 use Rattle.public_input.specs.Statement.{Statement}
 use Rattle.public_input.specs.Valid.{KeepsLimits}
+use Rattle.trace_files.specs.TraceFile.{IsState}
 use Rattle.table_file.specs.Tables.{Contents, AreValid}
-use Rattle.constraint_checker.specs.Lists.{felt_of, accesses, range_cells, range_values}
+use Rattle.constraint_checker.specs.Lists.{accesses, range_cells, range_values}
 use Rattle.constraint_checker.specs.Constraints.{states as states_in, first_state, last_state, MeetsAll}
 use Rattle.table_builder.specs.Rows.{first_of, last_of, no_state, rows_of}
 use Rattle.table_builder.specs.Columns.{unsorted, reads, small_values, free_addresses, cells_at, tables_of}
 use Rattle.table_builder.proofs.NothingFound.{Answered}
-use Rattle.table_builder.proofs.RowsOfRun.{IsSmall, run_row_count, run_sixteen, run_states, run_meets, last_kept}
+use Rattle.table_builder.proofs.RowsOfRun.{run_row_count, run_sixteen, run_states, run_meets, last_kept}
 use Rattle.table_builder.proofs.Held.{reads_one_value}
 use Rattle.table_builder.proofs.Filled.{memory_filled, length-fillers, small_within, small_filled, length-absent}
 use Rattle.table_builder.proofs.Counts.{length-range_rows_of, length-accesses, length-range_values}
@@ -45,11 +47,11 @@ module _ (program : Listing) (public : Statement) (m : Memory) (states : List Re
   unfolding tables_of reads accesses unsorted range_cells
   made_accesses = ap (λ xs. xs ++ tables.fillers) (sym (append-nil _))
 
-  pub made_values : range_values tables ≡ small_values public m states ++ map felt_of (absent_values (small_values public m states) public.rc_min public.rc_max)
+  pub made_values : range_values tables ≡ small_values public m states ++ map felt (absent_values (small_values public m states) public.rc_min public.rc_max)
   unfolding tables_of small_values range_values unsorted
   made_values = ap (λ xs. xs ++ tables.range_fillers) (sym (append-nil _))
 
-  module _ (low : (a v : ℕ) → m a ≡ Some v → v < prime) (small : All IsSmall states) (some : 2 ≤ length states) (answers : Answered program public m states) where
+  module _ (low : (a v : ℕ) → m a ≡ Some v → v < prime) (small : All IsState states) (some : 2 ≤ length states) (answers : Answered program public m states) where
     pub legal : LegalRun m states
     legal = (first_refused-none m states some).0 answers.legal
 
@@ -66,7 +68,7 @@ module _ (program : Listing) (public : Statement) (m : Memory) (states : List Re
     unfolding tables_of
     made_valid is_program limits =
         let accessed = reads program public m states in
-        let absent : List Felt = map felt_of (absent_values (small_values public m states) public.rc_min public.rc_max) in
+        let absent : List Felt = map felt (absent_values (small_values public m states) public.rc_min public.rc_max) in
         let steps = answers.ends.steps in
         let rows : length (rows_of m states) ≡ public.steps = omega (arith, row_count, steps, some) in
         let fillers : length (cells_at m (free_addresses accessed)) ≤ 2 ^ 21 = omega (arith, length-fillers m low accessed some_reads, answers.width) in
@@ -108,7 +110,7 @@ module _ (program : Listing) (public : Statement) (m : Memory) (states : List Re
     unfolding tables_of
     met_in_range range narrow =
         let values = small_values public m states in
-        let absent : List Felt = map felt_of (absent_values values public.rc_min public.rc_max) in
+        let absent : List Felt = map felt (absent_values values public.rc_min public.rc_max) in
         let met = (range_met (values ++ absent) tables.sorted_range public.rc_min public.rc_max).0
         (small_filled values public.rc_min public.rc_max narrow range (small_within values public.rc_min public.rc_max answers.least answers.greatest)) in
         (met.0, met.1, met.2, subst (λ xs. Q4 xs tables.sorted_range) (sym made_values) met.3)

@@ -7,13 +7,14 @@ use Rattle.std.proofs.lemmas.List.Elements.{All-weaker}
 use Rattle.goldilocks.specs.declared.Pair.{Pair}
 use Rattle.casm_word.specs.Transition.{Memory, Registers, Outcome}
 use Rattle.casm_word.specs.Run.{first_refused}
-use Rattle.memory_columns.specs.Filling.{fill_limit}
+use Rattle.cpu_rows.specs.Columns.{numbers}
+use Rattle.memory_columns.specs.Filling.{most_fillers}
 use Rattle.program_file.specs.Listing.{Listing}
 use Rattle.public_input.specs.Statement.{Statement}
 use Rattle.constraint_checker.specs.Lists.{program_cells}
 use Rattle.table_builder.specs.declared.faults.Field.TheVariants.{Steps, PcFirst, ApFirst, FpFirst, PcLast, ApLast, Cell, RcMin, RcMax}
 use Rattle.table_builder.specs.Rows.{first_of, last_of, range_address}
-use Rattle.table_builder.specs.Columns.{least, greatest, reads, small_values, numbers, free_addresses}
+use Rattle.table_builder.specs.Columns.{least, greatest, reads, small_values, free_addresses}
 use Rattle.table_builder.specs.Findings.{Finding, Mismatch, Step, RangeWidth, first_found, differs, end_findings, step_finding, cell_finding, cell_findings, range_finding, range_findings, limit_findings, width_finding, findings}
 use Rattle.table_builder.proofs.Findings.{first_found-none, first_found-none_append, first_found-none_cons, first_found-cons_none, map-all_none, first_found-map_none, differs-none, differs-same}
 
@@ -41,7 +42,7 @@ pub record Answered (program : Listing) (public : Statement) (m : Memory) (state
   pub range : All (HasRange public m) (range_with_len 0 public.range_count)
   pub least : public.rc_min ≤ least (numbers (small_values public m states))
   pub greatest : greatest (numbers (small_values public m states)) ≤ public.rc_max
-  pub width : length (free_addresses (reads program public m states)) ≤ fill_limit
+  pub width : length (free_addresses (reads program public m states)) ≤ most_fillers
 
 -- ---- one question after another
 
@@ -169,4 +170,4 @@ asked program public m states h =
     (All-weaker (HasRange public m) (λ i. range_finding i (range_address public i) (m (range_address public i)) ≡ None) (λ i has. range-asked i (range_address public i) has.0 (m (range_address public i)) has.1 has.2) (range_with_len 0 public.range_count) h.range)))
     (first_found-cons_none _ _ (nothing_below (least small) public.rc_min _ h.least)
     (first_found-cons_none _ [] (nothing_below public.rc_max (greatest small) _ h.greatest) refl)))
-    (first_found-cons_none (width_finding accessed) [] (nothing_below fill_limit (length (free_addresses accessed)) _ h.width) refl)
+    (first_found-cons_none (width_finding accessed) [] (nothing_below most_fillers (length (free_addresses accessed)) _ h.width) refl)

@@ -7,6 +7,7 @@ use Rattle.std.proofs.lemmas.Option.{slice_get-get_or}
 use Rattle.goldilocks.specs.Field.{prime, field_add}
 use Rattle.goldilocks.specs.declared.Felt.{Felt}
 use Rattle.goldilocks.specs.declared.Pair.{Pair}
+use Rattle.goldilocks.specs.Felts.{felt}
 use Rattle.casm_word.specs.Transition.{Memory, Registers}
 use Rattle.casm_word.specs.Run.{steps}
 use Rattle.casm_word.proofs.RefusedRuns.{first_refused-none}
@@ -18,7 +19,7 @@ use Rattle.cpu_rows.proofs.RowOfStep.{one_row_of}
 use Rattle.sorted_lists.specs.Order.{in_order}
 use Rattle.memory_columns.specs.Equations.{pair_cmp}
 use Rattle.memory_columns.specs.OneMemory.{Holds}
-use Rattle.memory_columns.specs.Filling.{unaccessed, filler_at, AreFillers, fill_limit}
+use Rattle.memory_columns.specs.Filling.{unaccessed, filler_at, AreFillers, most_fillers}
 use Rattle.memory_columns.proofs.Fillings.{map-map}
 use Rattle.range_columns.specs.declared.RangeRow.{RangeRow}
 use Rattle.range_columns.specs.Limbs.{IsSplitOf}
@@ -26,10 +27,11 @@ use Rattle.range_columns.specs.Equations.{felt_cmp, IsWithin}
 use Rattle.range_columns.specs.Filling.{absent_values}
 use Rattle.program_file.specs.Listing.{Listing}
 use Rattle.public_input.specs.Statement.{Statement}
+use Rattle.public_input.specs.Valid.{addresses}
 use Rattle.table_file.specs.Tables.{Contents}
-use Rattle.constraint_checker.specs.Lists.{felt_of, cell, cells_from, row_cells, program_cells, range_cells, accesses, row_offsets, limbs, range_values}
+use Rattle.constraint_checker.specs.Lists.{cell, cells_from, row_cells, program_cells, range_cells, accesses, row_offsets, limbs, range_values}
 use Rattle.table_builder.specs.Rows.{first_of, last_of, no_state, as_state, as_row, rows_of, range_address, limb_row, range_rows_of}
-use Rattle.table_builder.specs.Columns.{least, greatest, addresses, unsorted, reads, small_values, free_addresses, cells_at, tables_of}
+use Rattle.table_builder.specs.Columns.{least, greatest, unsorted, reads, small_values, free_addresses, cells_at, tables_of}
 use Rattle.table_builder.specs.Building.{unless_found, building}
 use Rattle.table_builder.specs.TablesOf.{HasFieldValues, AreInField, without_fillers, AreTablesOf}
 use Rattle.table_builder.proofs.Kept.{felts_kept, row_kept, state_kept, limbs_kept, cells_kept}
@@ -65,10 +67,10 @@ module _ (m : Memory) (public : Statement) where
   only_range k (r ∷ rows) has split =
       let begin : ℕ = public.range_begin.number in
       let values : List Felt = map (λ r. r.value) rows in
-      let later : All (Has m) (cells_from (begin + k + 1) values) = All-tail (Has m) (cell (felt_of (begin + k)) r.value) (cells_from (begin + k + 1) values) has in
+      let later : All (Has m) (cells_from (begin + k + 1) values) = All-tail (Has m) (cell (felt (begin + k)) r.value) (cells_from (begin + k + 1) values) has in
       let place : begin + k + 1 ≡ begin + (k + 1) = omega arith in
       let behind = only_range (k + 1) rows (subst (λ a. All (Has m) (cells_from a values)) place later) split.1 in
-      let here : m ((begin + k) % prime) ≡ Some r.value.number = All-head (Has m) (cell (felt_of (begin + k)) r.value) (cells_from (begin + k + 1) values) has in
+      let here : m ((begin + k) % prime) ≡ Some r.value.number = All-head (Has m) (cell (felt (begin + k)) r.value) (cells_from (begin + k + 1) values) has in
       let same : unwrap_or (m ((begin + k) % prime)) 0 ≡ r.value.number = ap (λ o. unwrap_or o 0) here in (
         ap₂ (λ x xs. x ∷ xs) (limbs_kept r split.0.1 ∙ ap limb_row (sym same)) behind.0,
         All-cons (HasRange public m) k (range_with_len (k + 1) (length rows)) (r.value.number, here, split.0.0) behind.1,
@@ -88,7 +90,7 @@ module _ (m : Memory) (public : Statement) where
 pub only_fillers : (m : Memory) (cells fill : List Pair) → AreFillers m cells fill → fill ≡ cells_at m (free_addresses cells)
 unfolding cells_at free_addresses
 only_fillers m cells fill are =
-    let made : ℕ × ℕ → Pair = λ p. cell (felt_of p.0) (felt_of p.1) in
+    let made : ℕ × ℕ → Pair = λ p. cell (felt p.0) (felt p.1) in
     let free : unaccessed cells are.least are.greatest ≡ unaccessed cells (least (addresses cells)) (greatest (addresses cells)) =
     sym (ap₂ (unaccessed cells) (spans_least cells are.least are.greatest are.spans) (spans_greatest cells are.least are.greatest are.spans)) in
     sym (cells_kept fill)
@@ -130,12 +132,12 @@ module _ (program : Listing) (public : Statement) (m : Memory) (states : List Re
   fillers_same = only_fillers m accessed tables.fillers (subst (λ cells. AreFillers m cells tables.fillers) accesses_same are.fillers)
 
   abbrev absent : List Felt
-  absent = map felt_of (absent_values (small_values public m states) public.rc_min public.rc_max)
+  absent = map felt (absent_values (small_values public m states) public.rc_min public.rc_max)
 
   range_fillers_same : tables.range_fillers ≡ absent
   range_fillers_same =
       sym (felts_kept tables.range_fillers)
-      ∙ ap (map felt_of) (are.range_fillers ∙ ap (λ values. absent_values values public.rc_min public.rc_max) values_same)
+      ∙ ap (map felt) (are.range_fillers ∙ ap (λ values. absent_values values public.rc_min public.rc_max) values_same)
 
   pairs_same : tables.pairs ≡ in_order pair_cmp (accessed ++ cells_at m (free_addresses accessed))
   unfolding accesses range_cells
@@ -178,7 +180,7 @@ module _ (program : Listing) (public : Statement) (m : Memory) (states : List Re
   unfolding reads unsorted
   some_accessed = omega (arith, length-accesses program public (unsorted public m states), ap length rows_same, are.row_count, are.step_count, are.run.has_step)
 
-  few_free : length (free_addresses accessed) ≤ fill_limit
+  few_free : length (free_addresses accessed) ≤ most_fillers
   few_free = omega (arith, length-fillers m low accessed some_accessed, ap length fillers_same, are.few_fillers)
 
   all_answered : Answered program public m states

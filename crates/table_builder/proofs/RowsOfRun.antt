@@ -13,13 +13,10 @@ use Rattle.cpu_rows.specs.Equations.{Meets}
 use Rattle.cpu_rows.specs.Steps.{IsRowOf, Tells}
 use Rattle.cpu_rows.specs.Table.{states_of, with_next}
 use Rattle.cpu_rows.proofs.RowOfStep.{Tells-from_row_of}
+use Rattle.trace_files.specs.TraceFile.{IsState}
 use Rattle.table_builder.specs.Rows.{row_at, as_row, as_state, rows_of, last_of, no_state}
 use Rattle.table_builder.proofs.AsRows.{columns-as_row, registers-as_state, sixteen-as_row}
 use Rattle.table_builder.proofs.StepRows.{row_at-Some}
-
--- the registers are numbers of the field
-abbrev pub IsSmall : Registers → Type 0
-IsSmall s = (s.pc < prime) × (s.ap < prime) × (s.fp < prime)
 
 -- the row is that of the step, and tells it
 pub record IsTold (m : Memory) (step : Registers × Registers) (c : Columns) : Type 0 where
@@ -32,12 +29,12 @@ abbrev pub columns_of : Memory → List (Registers × Registers) → List Column
 columns_of m pairs = filter_map (λ step. row_at m step.0) pairs
 
 module _ (m : Memory) (low : (a v : ℕ) → m a ≡ Some v → v < prime) where
-  told_of_step : (step : Registers × Registers) → IsSmall step.0 → next m step.0 ≡ Some step.1 → (c : Columns) × (row_at m step.0 ≡ Some c) × IsTold m step c
+  told_of_step : (step : Registers × Registers) → IsState step.0 → next m step.0 ≡ Some step.1 → (c : Columns) × (row_at m step.0 ≡ Some c) × IsTold m step c
   told_of_step step small legal =
-      let made = row_at-Some m step.0 step.1 low small.0 small.1 small.2 legal in
+      let made = row_at-Some m step.0 step.1 low small.pc small.ap small.fp legal in
       (made.0, made.1, record { row = made.2; of_step = made.3; tells = Tells-from_row_of m step.0 step.1 made.0 made.2 made.3 legal })
 
-  pub told_rows : (pairs : List (Registers × Registers)) → AllByRecursion (λ step. IsSmall step.0) pairs → AllByRecursion (λ step. next m step.0 ≡ Some step.1) pairs → AllZip (IsTold m) pairs (columns_of m pairs)
+  pub told_rows : (pairs : List (Registers × Registers)) → AllByRecursion (λ step. IsState step.0) pairs → AllByRecursion (λ step. next m step.0 ≡ Some step.1) pairs → AllZip (IsTold m) pairs (columns_of m pairs)
   told_rows [] small legal = tt
   told_rows (step ∷ pairs) small legal =
       let made = told_of_step step small.0 legal.0 in
@@ -93,14 +90,14 @@ states_from_steps s (t ∷ rest) =
 
 -- ---- a whole run
 
-module _ (m : Memory) (states : List Registers) (low : (a v : ℕ) → m a ≡ Some v → v < prime) (small : All IsSmall states) (run : LegalRun m states) where
+module _ (m : Memory) (states : List Registers) (low : (a v : ℕ) → m a ≡ Some v → v < prime) (small : All IsState states) (run : LegalRun m states) where
   abbrev pub cs : List Columns
   cs = columns_of m (steps states)
 
-  each_small : AllByRecursion (λ step. IsSmall step.0) (steps states)
-  each_small = firsts_small states (drop 1 states) (recursion_from_All IsSmall states small)
+  each_small : AllByRecursion (λ step. IsState step.0) (steps states)
+  each_small = firsts_small states (drop 1 states) (recursion_from_All IsState states small)
     where
-      firsts_small : (xs ys : List Registers) → AllByRecursion IsSmall xs → AllByRecursion (λ step. IsSmall step.0) (zip xs ys)
+      firsts_small : (xs ys : List Registers) → AllByRecursion IsState xs → AllByRecursion (λ step. IsState step.0) (zip xs ys)
       firsts_small [] ys all = tt
       firsts_small (x ∷ xs) [] all = tt
       firsts_small (x ∷ xs) (y ∷ ys) all = (all.0, firsts_small xs ys all.1)
@@ -122,8 +119,8 @@ module _ (m : Memory) (states : List Registers) (low : (a v : ℕ) → m a ≡ S
 
   pub last_kept : registers (as_state (last_of states)) ≡ last_of states
   last_kept =
-      let is : IsSmall (last_of states) = small (length states - 1) no_state (omega (arith, run.has_step)) in
-      registers-as_state (last_of states) is.0 is.1 is.2
+      let is : IsState (last_of states) = small (length states - 1) no_state (omega (arith, run.has_step)) in
+      registers-as_state (last_of states) is.pc is.ap is.fp
 
   pub run_states : states_of (map columns (rows_of m states)) (registers (as_state (last_of states))) ≡ states
   run_states =

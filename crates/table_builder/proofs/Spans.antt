@@ -5,9 +5,11 @@ use Rattle.std.proofs.lemmas.List.{length-map}
 use Rattle.std.proofs.lemmas.List.Elements.{All-map}
 use Rattle.goldilocks.specs.declared.Felt.{Felt}
 use Rattle.goldilocks.specs.declared.Pair.{Pair}
+use Rattle.cpu_rows.specs.Columns.{numbers}
 use Rattle.memory_columns.specs.Filling.{Spans}
 use Rattle.range_columns.specs.Equations.{IsWithin}
-use Rattle.table_builder.specs.Columns.{least, greatest, addresses, numbers}
+use Rattle.public_input.specs.Valid.{addresses}
+use Rattle.table_builder.specs.Columns.{least, greatest}
 use Rattle.table_builder.proofs.LeastGreatest.{any-here, any-later, any-and_all, least-is, least-reached, greatest-is, greatest-reached}
 
 -- some item, made another

@@ -1,10 +1,12 @@
 -- The definitions tried on a program of five instructions. Its run has four steps.
 use Rattle.std.proofs.Common.{◌≡◌, ℕ, ◌-◌, ◌==◌, if◌then◌else◌, List, [], ◌∷◌, ◌++◌, map, length, Option, Some, None, option_map, false, slice_get, refl}
 use Rattle.goldilocks.specs.Field.{field_add, field_mul, field_of_int, field_neg}
+use Rattle.goldilocks.specs.Felts.{felt}
 use Rattle.casm_word.specs.Word.{flags_of, word_of, breaks, first_broken, decoding}
 use Rattle.casm_word.specs.Transition.{Memory, Registers, outcome}
 use Rattle.casm_word.specs.Run.{first_refused}
 use Rattle.cpu_rows.specs.Steps.{row_of, tilde_of}
+use Rattle.cpu_rows.specs.Columns.{numbers}
 use Rattle.sorted_lists.specs.Order.{in_order, with_item}
 use Rattle.sorted_lists.specs.Gaps.{absent, gaps_between}
 use Rattle.memory_columns.specs.Filling.{unaccessed, filler_at, numbers_of}
@@ -13,10 +15,10 @@ use Rattle.range_columns.specs.Filling.{absent_values}
 use Rattle.program_file.specs.Listing.{Listing}
 use Rattle.public_input.specs.Statement.{Statement}
 use Rattle.table_file.specs.Tables.{Contents}
-use Rattle.constraint_checker.specs.Lists.{felt_of, cell, cells_from, row_cells, program_cells, range_cells, accesses, row_offsets, limbs, range_values}
+use Rattle.constraint_checker.specs.Lists.{cell, cells_from, row_cells, program_cells, range_cells, accesses, row_offsets, limbs, range_values}
 use Rattle.table_builder.specs.declared.faults.Field.TheVariants.{ApLast, RcMax}
 use Rattle.table_builder.specs.Rows.{row_at, as_row, rows_of, limb_row, range_rows_of}
-use Rattle.table_builder.specs.Columns.{least, greatest, unsorted, reads, small_values, numbers, free_addresses, cells_at, tables_of}
+use Rattle.table_builder.specs.Columns.{least, greatest, unsorted, reads, small_values, free_addresses, cells_at, tables_of}
 use Rattle.table_builder.specs.Findings.{Finding, Mismatch, NoCell, first_found, end_findings, step_finding, cell_findings, range_findings, limit_findings, width_finding, findings}
 
 -- `ap += 0`, `call rel 4`, `jmp rel 0`, `[ap] = 25; ap++` and `ret`
@@ -35,7 +37,7 @@ states = state 1 12 12 ∷ state 3 12 12 ∷ state 7 14 14 ∷ state 9 15 14 ∷
 
 abbrev program : Listing
 program = record {
-  words = map felt_of words;
+  words = map felt words;
   start = 0;
   end = 4;
   builtins = record { output = false; range = false };
@@ -45,13 +47,13 @@ program = record {
 abbrev public_with : ℕ → ℕ → ℕ → ℕ → Statement
 public_with ap_last rc_min rc_max range_count = record {
   steps = 4;
-  ap_first = felt_of 12;
-  ap_last = felt_of ap_last;
+  ap_first = felt 12;
+  ap_last = felt ap_last;
   rc_min = rc_min;
   rc_max = rc_max;
-  range_begin = felt_of 10;
+  range_begin = felt 10;
   range_count = range_count;
-  cells = cell (felt_of 11) (felt_of 0) ∷ [];
+  cells = cell (felt 11) (felt 0) ∷ [];
 }
 
 abbrev found : Statement → Option Finding

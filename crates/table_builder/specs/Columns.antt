@@ -3,6 +3,7 @@ use Rattle.std.specs.Prelude.{ℕ, List, [], ◌++◌, map, min, max, unwrap_or}
 use Rattle.std.specs.List.{reduce}
 use Rattle.goldilocks.specs.declared.Felt.{Felt}
 use Rattle.goldilocks.specs.declared.Pair.{Pair}
+use Rattle.goldilocks.specs.Felts.{felt}
 use Rattle.casm_word.specs.Transition.{Memory, Registers}
 use Rattle.sorted_lists.specs.Order.{in_order}
 use Rattle.memory_columns.specs.Equations.{pair_cmp}
@@ -11,14 +12,16 @@ use Rattle.range_columns.specs.Equations.{felt_cmp}
 use Rattle.range_columns.specs.Filling.{absent_values}
 use Rattle.program_file.specs.Listing.{Listing}
 use Rattle.public_input.specs.Statement.{Statement}
+use Rattle.public_input.specs.Valid.{addresses}
 use Rattle.table_file.specs.Tables.{Contents}
-use Rattle.constraint_checker.specs.Lists.{felt_of, cell, accesses, range_values}
+use Rattle.constraint_checker.specs.Lists.{cell, accesses, range_values}
 use Rattle.table_builder.specs.Rows.{rows_of, range_rows_of, last_of, as_state}
 
--- The least and the greatest of some numbers; 0 where there are none. Own.
+-- The least of some numbers; 0 where there are none. Own.
 unfoldable pub least : List ℕ → ℕ
 least numbers = unwrap_or (reduce min numbers) 0
 
+-- The greatest of some numbers; 0 where there are none. Own.
 unfoldable pub greatest : List ℕ → ℕ
 greatest numbers = unwrap_or (reduce max numbers) 0
 
@@ -42,20 +45,13 @@ reads program public m states = accesses program public (unsorted public m state
 unfoldable pub small_values : Statement → Memory → List Registers → List Felt
 small_values public m states = range_values (unsorted public m states)
 
--- The addresses of cells, and the numbers of values. Own.
-abbrev pub addresses : List Pair → List ℕ
-addresses cells = map (λ x. x.addr.number) cells
-
-abbrev pub numbers : List Felt → List ℕ
-numbers values = map (λ x. x.number) values
-
 -- The addresses between the least and the greatest accessed one that are never accessed, ascending. Own.
 unfoldable pub free_addresses : List Pair → List ℕ
 free_addresses cells = unaccessed cells (least (addresses cells)) (greatest (addresses cells))
 
 -- The cells at these addresses, with the memory's values, or 0 where it has none. Own.
 unfoldable pub cells_at : Memory → List ℕ → List Pair
-cells_at m free = map (λ a. cell (felt_of (filler_at m a).0) (felt_of (filler_at m a).1)) free
+cells_at m free = map (λ a. cell (felt (filler_at m a).0) (felt (filler_at m a).1)) free
 
 -- The tables of a run with the public input: the memory fillers lie between the accesses, and the range fillers are the
 -- values that no offset and no limb has. Sorted are all accesses with the fillers, and all offsets and limbs with
@@ -65,7 +61,7 @@ tables_of program public m states =
     let accessed = reads program public m states in
     let fillers = cells_at m (free_addresses accessed) in
     let small = small_values public m states in
-    let absent = map felt_of (absent_values small public.rc_min public.rc_max) in
+    let absent = map felt (absent_values small public.rc_min public.rc_max) in
     record {
       rows = rows_of m states;
       last = as_state (last_of states);

@@ -1,19 +1,22 @@
 -- What stands in the way of tables: how a run, its memory, its program and its public input disagree.
-use Rattle.std.specs.Prelude.{ℕ, ◌≡◌, ◌-◌, ◌+◌, ◌^◌, ◌==◌, nat_lt, List, [], ◌∷◌, ◌++◌, map, length, take, All, slice_get, Option, Some, None, option_map, if◌then◌else◌}
+use Rattle.std.specs.Prelude.{ℕ, ◌≡◌, ◌-◌, ◌+◌, ◌==◌, nat_lt, List, [], ◌∷◌, ◌++◌, map, length, take, All, slice_get, Option, Some, None, option_map, if◌then◌else◌}
 use Rattle.std.specs.List.{range_with_len}
 use Rattle.goldilocks.specs.declared.Pair.{Pair}
 use Rattle.casm_word.specs.Transition.{Memory, Registers, Outcome, outcome_of}
 use Rattle.casm_word.specs.Run.{first_refused}
-use Rattle.memory_columns.specs.Filling.{fill_limit}
+use Rattle.cpu_rows.specs.Columns.{numbers}
+use Rattle.memory_columns.specs.Filling.{most_fillers}
 use Rattle.program_file.specs.Listing.{Listing}
 use Rattle.public_input.specs.Statement.{Statement}
+use Rattle.public_input.specs.Valid.{addresses}
+use Rattle.range_columns.specs.Limbs.{range_bound}
 use Rattle.constraint_checker.specs.Lists.{program_cells}
 use Rattle.table_builder.specs.declared.faults.Field.{Field}
 use Rattle.table_builder.specs.declared.faults.Field.TheVariants.{Steps, PcFirst, ApFirst, FpFirst, PcLast, ApLast, Cell, RcMin, RcMax}
 use Rattle.table_builder.specs.declared.faults.BuildFault.{BuildFault}
 use Rattle.table_builder.specs.declared.faults.BuildFault.TheVariants as fault
 use Rattle.table_builder.specs.Rows.{first_of, last_of, range_address}
-use Rattle.table_builder.specs.Columns.{least, greatest, reads, small_values, addresses, numbers, free_addresses}
+use Rattle.table_builder.specs.Columns.{least, greatest, reads, small_values, free_addresses}
 
 -- What is found, in numbers. The names are those of the faults of `build`. Own.
 pub data Finding : Type 0 where
@@ -77,7 +80,7 @@ cell_findings program public m = map (λ x. cell_finding x (m x.addr.number)) (p
 -- Range cell i, at this address, has to be there and below 2^48: what the memory has there is the third argument. Own.
 abbrev pub range_finding : ℕ → ℕ → Option ℕ → Option Finding
 range_finding i address None = Some (NoCell address)
-range_finding i address (Some number) = if nat_lt number (2 ^ 48) then None else Some (RangeWidth i)
+range_finding i address (Some number) = if nat_lt number range_bound then None else Some (RangeWidth i)
 
 -- Each range cell has to be there, and below 2^48. The whitepaper's builtin for range checks.
 unfoldable pub range_findings : Statement → Memory → List (Option Finding)
@@ -93,11 +96,11 @@ limit_findings public small =
 -- Between the least and the greatest accessed address there may be no more than 2^21 that are never accessed. Own.
 unfoldable pub width_finding : List Pair → Option Finding
 width_finding accessed =
-    if nat_lt fill_limit (length (free_addresses accessed))
+    if nat_lt most_fillers (length (free_addresses accessed))
     then Some (TooWide (least (addresses accessed)) (greatest (addresses accessed))) else None
 
--- All that is asked, in its order: the ends of the run, its steps, the program's words and then the public cells, the
--- range cells, the least and the greatest small value, and how far the accesses reach. Own.
+-- All that is asked, in its order. First come the ends of the run and its steps. Then come the program's words, the
+-- public cells, the range cells, the least and the greatest small value, and how far the accesses reach. Own.
 unfoldable pub findings : Listing → Statement → Memory → List Registers → List (Option Finding)
 findings program public m states =
     end_findings program public states

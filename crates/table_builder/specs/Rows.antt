@@ -4,6 +4,7 @@ use Rattle.std.specs.Prelude.{ℕ, ◌-◌, List, map, length, Option, Some, if�
 use Rattle.std.specs.List.{filter_map, range_with_len}
 use Rattle.std.specs.Result.{result_ok}
 use Rattle.goldilocks.specs.Field.{prime, field_add, field_pow}
+use Rattle.goldilocks.specs.Felts.{felt}
 use Rattle.casm_word.specs.declared.Flags.{Flags}
 use Rattle.casm_word.specs.declared.State.{State}
 use Rattle.casm_word.specs.Word.{decoding}
@@ -15,7 +16,6 @@ use Rattle.cpu_rows.specs.Steps.{row_of}
 use Rattle.range_columns.specs.declared.RangeRow.{RangeRow}
 use Rattle.range_columns.specs.Limbs.{limb_at}
 use Rattle.public_input.specs.Statement.{Statement}
-use Rattle.constraint_checker.specs.Lists.{felt_of}
 
 -- ---- the states at the ends of a run
 
@@ -23,16 +23,17 @@ use Rattle.constraint_checker.specs.Lists.{felt_of}
 abbrev pub no_state : Registers
 no_state = record { pc = 0; ap = 0; fp = 0 }
 
--- The first and the last of the states. Own.
+-- The first of the states. Own.
 abbrev pub first_of : List Registers → Registers
 first_of states = slice_index_or states 0 no_state
 
+-- The last of the states. Own.
 abbrev pub last_of : List Registers → Registers
 last_of states = slice_index_or states (length states - 1) no_state
 
 -- The registers as a state. Own.
 abbrev pub as_state : Registers → State
-as_state s = record { pc = felt_of s.pc; ap = felt_of s.ap; fp = felt_of s.fp }
+as_state s = record { pc = felt s.pc; ap = felt s.ap; fp = felt s.fp }
 
 -- ---- the rows of the steps
 
@@ -59,24 +60,24 @@ row_at m s = do
 -- The numbers of a row as a row. Own.
 unfoldable pub as_row : Columns → Row
 as_row c = record {
-  pc = felt_of c.pc;
-  ap = felt_of c.ap;
-  fp = felt_of c.fp;
-  inst = felt_of c.inst;
-  tilde = map felt_of c.tilde;
-  off_dst = felt_of c.off_dst;
-  off_op0 = felt_of c.off_op0;
-  off_op1 = felt_of c.off_op1;
-  dst_addr = felt_of c.dst_addr;
-  op0_addr = felt_of c.op0_addr;
-  op1_addr = felt_of c.op1_addr;
-  dst = felt_of c.dst;
-  op0 = felt_of c.op0;
-  op1 = felt_of c.op1;
-  mul = felt_of c.mul;
-  res = felt_of c.res;
-  t0 = felt_of c.t0;
-  t1 = felt_of c.t1;
+  pc = felt c.pc;
+  ap = felt c.ap;
+  fp = felt c.fp;
+  inst = felt c.inst;
+  tilde = map felt c.tilde;
+  off_dst = felt c.off_dst;
+  off_op0 = felt c.off_op0;
+  off_op1 = felt c.off_op1;
+  dst_addr = felt c.dst_addr;
+  op0_addr = felt c.op0_addr;
+  op1_addr = felt c.op1_addr;
+  dst = felt c.dst;
+  op0 = felt c.op0;
+  op1 = felt c.op1;
+  mul = felt c.mul;
+  res = felt c.res;
+  t0 = felt c.t0;
+  t1 = felt c.t1;
 }
 
 -- The rows of a run: that of each step, from its first state on. A step that has no row is passed over. The whitepaper's
@@ -92,7 +93,7 @@ range_address public i = field_add public.range_begin.number i
 
 -- A number with its three lowest digits to the base 2^16. Own.
 unfoldable pub limb_row : ℕ → RangeRow
-limb_row number = record { value = felt_of number; l0 = felt_of (limb_at 0 number); l1 = felt_of (limb_at 1 number); l2 = felt_of (limb_at 2 number) }
+limb_row number = record { value = felt number; l0 = felt (limb_at 0 number); l1 = felt (limb_at 1 number); l2 = felt (limb_at 2 number) }
 
 -- The range rows: each range cell with its limbs. A missing cell counts as 0. The whitepaper's builtin for range checks.
 unfoldable pub range_rows_of : Statement → Memory → List RangeRow

@@ -28,10 +28,11 @@ finding_text (NoCell address) = codes "NoCell " ++ decimal address
 finding_text (RangeWidth row) = codes "RangeWidth " ++ decimal row
 finding_text (TooWide least greatest) = codes "TooWide " ++ (decimal least ++ (codes " " ++ decimal greatest))
 
--- The text of a fault; want of memory has one of its own. Own.
+-- The text of what is found, or that of want of memory where nothing is. Own.
 abbrev pub text_of : Option Finding → List ℕ
 text_of None = codes "Memory"
 text_of (Some found) = finding_text found
 
+-- The text of a fault. Own.
 abbrev pub fault_text : BuildFault → List ℕ
 fault_text fault = text_of (finding_of fault)

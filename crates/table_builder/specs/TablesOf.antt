@@ -1,23 +1,23 @@
 -- What the tables of a run are, in words of the run. "The whitepaper" is Cairo's, ePrint 2021/1063.
-use Rattle.std.specs.Prelude.{ℕ, ◌≡◌, ◌+◌, ◌<◌, ◌≤◌, ◌^◌, List, [], zip, length, All, Some, slice_get}
+use Rattle.std.specs.Prelude.{ℕ, ◌≡◌, ◌+◌, ◌<◌, ◌≤◌, List, [], zip, length, All, Some, slice_get}
 use Rattle.goldilocks.specs.Field.{prime}
 use Rattle.casm_word.specs.Transition.{Memory, Registers, registers}
 use Rattle.casm_word.specs.Run.{steps, LegalRun}
-use Rattle.cpu_rows.specs.Columns.{columns}
+use Rattle.cpu_rows.specs.Columns.{columns, numbers}
 use Rattle.cpu_rows.specs.Steps.{IsRowOf}
 use Rattle.sorted_lists.specs.Order.{in_order}
 use Rattle.memory_columns.specs.Equations.{pair_cmp}
 use Rattle.memory_columns.specs.OneMemory.{Holds}
-use Rattle.memory_columns.specs.Filling.{AreFillers, fill_limit}
-use Rattle.range_columns.specs.Limbs.{IsSplitOf}
+use Rattle.memory_columns.specs.Filling.{AreFillers, most_fillers}
+use Rattle.range_columns.specs.Limbs.{IsSplitOf, range_bound}
 use Rattle.range_columns.specs.Equations.{felt_cmp, IsWithin}
 use Rattle.range_columns.specs.Filling.{absent_values}
 use Rattle.program_file.specs.Listing.{Listing}
 use Rattle.public_input.specs.Statement.{Statement}
+use Rattle.trace_files.specs.TraceFile.{IsState}
 use Rattle.table_file.specs.Tables.{Contents}
 use Rattle.constraint_checker.specs.Lists.{program_cells, range_cells, accesses, range_values}
 use Rattle.table_builder.specs.Rows.{last_of}
-use Rattle.table_builder.specs.Columns.{numbers}
 
 -- Each value of the memory is a number of the field. The whitepaper's memory.
 abbrev pub HasFieldValues : Memory → Type 0
@@ -25,7 +25,7 @@ HasFieldValues m = (a v : ℕ) → m a ≡ Some v → v < prime
 
 -- The registers of each state are numbers of the field. The whitepaper's registers.
 abbrev pub AreInField : List Registers → Type 0
-AreInField states = All (λ s. (s.pc < prime) × (s.ap < prime) × (s.fp < prime)) states
+AreInField states = All IsState states
 
 -- The tables without their fillers. Own.
 abbrev pub without_fillers : Contents → Contents
@@ -59,12 +59,12 @@ pub record AreTablesOf (program : Listing) (public : Statement) (m : Memory) (st
   -- There are as many range rows as the public input says.
   pub range_count : length tables.range ≡ public.range_count
   -- Each range row has a number below 2^48 and its three limbs.
-  pub range : All (λ row. (row.value.number < 2 ^ 48) × IsSplitOf row.value.number row) tables.range
+  pub range : All (λ row. (row.value.number < range_bound) × IsSplitOf row.value.number row) tables.range
   -- Every offset and limb lies from `rc_min` to `rc_max`.
   pub small_values : All (IsWithin public.rc_min public.rc_max) (range_values (without_fillers tables))
   -- The fillers are the cells between the accesses, and no more than there may be.
   pub fillers : AreFillers m (accesses program public (without_fillers tables)) tables.fillers
-  pub few_fillers : length tables.fillers ≤ fill_limit
+  pub few_fillers : length tables.fillers ≤ most_fillers
   -- The range fillers are the numbers from `rc_min` to `rc_max` that no offset and no limb has.
   pub range_fillers : numbers tables.range_fillers ≡ absent_values (range_values (without_fillers tables)) public.rc_min public.rc_max
   -- The sorted pairs are all accesses, fillers among them, in order.

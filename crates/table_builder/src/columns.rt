@@ -3,14 +3,15 @@
 
 ghost use Rattle.std.specs.Prelude.{◌≡◌, ◌≤◌, ◌<◌, Some, [], ⊤, length};
 ghost use Rattle.goldilocks.specs.Field.{prime};
+ghost use Rattle.cpu_rows.specs.Columns.{numbers};
 ghost use Rattle.program_file.specs.Listing.{listing};
 ghost use Rattle.public_input.specs.Statement.{statement};
 ghost use Rattle.public_input.specs.Valid.{IsValid};
 ghost use Rattle.table_file.specs.Tables.{contents, most_rows, most_range_rows};
 ghost use Rattle.constraint_checker.specs.Lists.{accesses, range_values};
-ghost use Rattle.table_builder.specs.Columns.{least, greatest, numbers};
+ghost use Rattle.table_builder.specs.Columns.{least, greatest};
 ghost use Rattle.table_builder.specs.Findings.{Mismatch, finding_of, first_found, limit_findings, width_finding};
-ghost use Rattle.table_builder.specs.Parts.{Tells, AreSmallColumns, AreMemoryColumns};
+ghost use Rattle.table_builder.specs.Parts.{FindsOrGives, AreSmallColumns, AreMemoryColumns};
 
 use crate::ends::felt;
 use crate::{BuildFault, Field};
@@ -34,7 +35,7 @@ pub(crate) fn small_columns(
     requires rows { length tables.now.rows.items ≤ most_rows }
     requires range_rows { length tables.now.range.items ≤ most_range_rows }
     requires no_fillers { tables.now.small.fill.items ≡ [] }
-    ensures { Tells (first_found (limit_findings (statement public.now) (numbers (range_values (contents tables.now)))))
+    ensures { FindsOrGives (first_found (limit_findings (statement public.now) (numbers (range_values (contents tables.now)))))
         (λ columns. AreSmallColumns (statement public.now) (range_values (contents tables.now)) columns.fill.items columns.sorted.items) result }
 {
     let values = range_values(alloc, tables)?;
@@ -44,7 +45,7 @@ pub(crate) fn small_columns(
 
 /// An error where a value lies outside the stated range.
 fn within_limits(public: &Public, values: &[Felt]) -> Result<(), BuildFault>
-    ensures { Tells (first_found (limit_findings (statement public.now) (numbers values.now))) (λ _. ⊤) result }
+    ensures { FindsOrGives (first_found (limit_findings (statement public.now) (numbers values.now))) (λ _. ⊤) result }
 {
     let least = least(values);
     if least < u64::from(public.rc_min) {
@@ -111,7 +112,7 @@ pub(crate) fn memory_columns<M: Reads>(
     requires rows { length tables.now.rows.items ≤ most_rows }
     requires range_rows { length tables.now.range.items ≤ most_range_rows }
     requires no_fillers { tables.now.memory.fill.items ≡ [] }
-    ensures { Tells (width_finding (accesses (listing program.now) (statement public.now) (contents tables.now)))
+    ensures { FindsOrGives (width_finding (accesses (listing program.now) (statement public.now) (contents tables.now)))
         (λ columns. AreMemoryColumns (M.cells m.now) (accesses (listing program.now) (statement public.now) (contents tables.now))
         columns.fill.items columns.sorted.items) result }
 {

@@ -7,7 +7,7 @@ ghost use Rattle.trace_files.specs.TraceFile.{most_states};
 ghost use Rattle.program_file.specs.Listing.{listing};
 ghost use Rattle.public_input.specs.Statement.{statement};
 ghost use Rattle.table_builder.specs.Findings.{differs, end_findings, first_found};
-ghost use Rattle.table_builder.specs.Parts.{Tells};
+ghost use Rattle.table_builder.specs.Parts.{FindsOrGives};
 
 use crate::{BuildFault, Field};
 use casm_word::State;
@@ -24,7 +24,7 @@ pub(crate) fn ends_agree(
 ) -> Result<(), BuildFault>
     requires least { 2 ≤ length states.now }
     requires most { length states.now ≤ most_states }
-    ensures { Tells (first_found (end_findings (listing program.now) (statement public.now) (map registers states.now))) (λ _. ⊤) result }
+    ensures { FindsOrGives (first_found (end_findings (listing program.now) (statement public.now) (map registers states.now))) (λ _. ⊤) result }
 {
     let first = states[0];
     let last = states[states.len() - 1];
@@ -41,7 +41,7 @@ pub(crate) fn ends_agree(
 
 /// An error where what is stated isn't what is found.
 pub(crate) fn agrees(field: Field, stated: Felt, found: Felt) -> Result<(), BuildFault>
-    ensures { Tells (differs field stated.number found.number) (λ _. ⊤) result }
+    ensures { FindsOrGives (differs field stated.number found.number) (λ _. ⊤) result }
 {
     if stated.number == found.number {
         return Ok(());

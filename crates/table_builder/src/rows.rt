@@ -8,7 +8,7 @@ ghost use Rattle.trace_files.specs.TraceFile.{most_states};
 ghost use Rattle.public_input.specs.Statement.{statement};
 ghost use Rattle.table_builder.specs.Rows.{limb_row, range_rows_of, rows_of};
 ghost use Rattle.table_builder.specs.Findings.{Step, finding_of, first_found, range_finding, range_findings, step_finding};
-ghost use Rattle.table_builder.specs.Parts.{Tells};
+ghost use Rattle.table_builder.specs.Parts.{FindsOrGives};
 
 use crate::BuildFault;
 use casm_word::{Reads, State, step};
@@ -26,7 +26,7 @@ pub(crate) fn rows_of<M: Reads>(
 ) -> Result<Vec<Row>, BuildFault>
     requires least { 2 ≤ length states.now }
     requires most { length states.now ≤ most_states }
-    ensures { Tells (step_finding (M.cells m.now) (map registers states.now))
+    ensures { FindsOrGives (step_finding (M.cells m.now) (map registers states.now))
         (λ rows. rows.items ≡ rows_of (M.cells m.now) (map registers states.now)) result }
 {
     let mut rows = Vec::with_capacity(alloc, states.len() - 1)?;
@@ -59,7 +59,7 @@ pub(crate) fn range_rows<M: Reads>(
     public: &Public,
     m: &M,
 ) -> Result<Vec<RangeRow>, BuildFault>
-    ensures { Tells (first_found (range_findings (statement public.now) (M.cells m.now)))
+    ensures { FindsOrGives (first_found (range_findings (statement public.now) (M.cells m.now)))
         (λ rows. rows.items ≡ range_rows_of (statement public.now) (M.cells m.now)) result }
 {
     let mut rows = Vec::with_capacity(alloc, public.range_count as usize)?;
@@ -73,7 +73,7 @@ pub(crate) fn range_rows<M: Reads>(
 
 /// The row of the range cell with the number `i`, which lies at this address.
 fn range_row<M: Reads>(i: u32, addr: Felt, m: &M) -> Result<RangeRow, BuildFault>
-    ensures { Tells (range_finding i addr.number (M.cells m.now addr.number))
+    ensures { FindsOrGives (range_finding i addr.number (M.cells m.now addr.number))
         (λ row. row ≡ limb_row (unwrap_or (M.cells m.now addr.number) 0)) result }
 {
     let Some(value) = m.read(addr) else {

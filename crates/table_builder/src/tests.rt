@@ -574,7 +574,7 @@ fn faults_have_texts(rt: HostRuntime) -> Result<(), Fail> {
     ];
     for (field, wanted) in fields {
         let text = format!(in rt.alloc(); "{field}")?;
-        assert_eq!(rt; text.as_str(), wanted);
+        assert_eq!(rt; text.as_str(), wanted, "{field:?}: the text");
     }
     let text = format!(in rt.alloc(); "{}", BuildFault::Memory)?;
     assert_eq!(rt; text.as_str(), "Memory");

@@ -3,9 +3,9 @@ use Rattle.std.proofs.Common.{◌≡◌, ◌≢◌, ℕ, ◌+◌, ◌<◌, ◌�
 use Rattle.std.proofs.lemmas.Bool.{cases_lt}
 use Rattle.std.specs.Prelude.{slice_index}
 use Rattle.goldilocks.specs.Field.{prime}
+use Rattle.goldilocks.specs.FileNumbers.{number_at}
 use Rattle.table_file.specs.declared.TableFault.{TableFault}
 use Rattle.table_file.specs.declared.TableFault.TheVariants.{Magic, TooMany, NotField, Length, Memory}
-use Rattle.table_file.specs.FileNumbers.{number_at}
 use Rattle.table_file.specs.Spelling.{magic}
 use Rattle.table_file.specs.Faults.{count_limits, count_place, value_place, count_in, file_end, IsOtherByte, IsHighCount, IsHighValue, EndsEarly, IsFollowed, HasFault, IsFirstFault}
 use Rattle.table_file.specs.Parts.{HasText, HasCounts, HasLowValues, IsFirstHighValue}

@@ -10,8 +10,8 @@ use Rattle.std.specs.List.{flat_map}
 use Rattle.goldilocks.specs.declared.Felt.{Felt}
 use Rattle.goldilocks.specs.Field.{prime}
 use Rattle.goldilocks.proofs.Pairs.{same_felt}
-use Rattle.table_file.specs.FileNumbers.{number_bytes, number_at}
-use Rattle.table_file.specs.Reading.{items_in, felt_in}
+use Rattle.goldilocks.specs.FileNumbers.{number_bytes, number_at}
+use Rattle.table_file.specs.Reading.{items_in, value_of_bytes}
 
 -- each element is a byte
 abbrev pub IsBytes : List ℕ → Type 0
@@ -76,14 +76,14 @@ spelled_back m size item spell eight reads (suc n) bytes fits good =
     rw (here, behind, sizes, take-add) refl
 
 -- a value is read of its bytes again, and eight good bytes spell the value that is read of them
-pub felt_finds : (x : Felt) → felt_in (number_bytes x.number) ≡ x
-unfolding felt_in
+pub felt_finds : (x : Felt) → value_of_bytes (number_bytes x.number) ≡ x
+unfolding value_of_bytes
 felt_finds x =
     let number : from_le_bytes w64 (number_bytes x.number) ≡ x.number = from_le_bytes-to_le_bytes_8 x.number (omega (arith, x.in_field)) in
-    same_felt (felt_in (number_bytes x.number)) x (ap (λ n. n % prime) number ∙ mod-eq_of_lt x.in_field)
+    same_felt (value_of_bytes (number_bytes x.number)) x (ap (λ n. n % prime) number ∙ mod-eq_of_lt x.in_field)
 
-pub felt_reads : (chunk : List ℕ) → length chunk ≡ 8 → IsGood 1 chunk → number_bytes (felt_in chunk).number ≡ chunk
-unfolding felt_in
+pub felt_reads : (chunk : List ℕ) → length chunk ≡ 8 → IsGood 1 chunk → number_bytes (value_of_bytes chunk).number ≡ chunk
+unfolding value_of_bytes
 felt_reads chunk eight good =
     let whole : take 8 chunk ≡ chunk = grind (arith, common_steps) in
     let small : from_le_bytes w64 chunk < prime = subst (λ (xs : List ℕ). from_le_bytes w64 xs < prime) whole (good.low 0 (omega arith)) in

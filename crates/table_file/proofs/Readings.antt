@@ -6,18 +6,18 @@ use Rattle.std.proofs.lemmas.List.{get_or_past}
 use Rattle.std.specs.Prelude.{slice_index, slice_get}
 use Rattle.std.specs.List.{cons_option, filter_map, range_with_len}
 use Rattle.goldilocks.specs.Field.{prime}
+use Rattle.goldilocks.specs.FileNumbers.{number_at}
 use Rattle.table_file.specs.declared.head.Counts.{Counts}
 use Rattle.table_file.specs.declared.TableFault.{TableFault}
 use Rattle.table_file.specs.declared.TableFault.TheVariants.{Magic, TooMany, NotField, Length, Memory}
 use Rattle.table_file.specs.Tables.{Contents}
-use Rattle.table_file.specs.FileNumbers.{number_at}
-use Rattle.table_file.specs.Spelling.{magic, Spells}
+use Rattle.table_file.specs.Spelling.{magic, SpellsTables}
 use Rattle.table_file.specs.Faults.{count_limits, count_place, value_place, count_in, file_end, IsOtherByte, IsHighCount, IsHighValue, EndsEarly, IsFollowed, HasFault, IsFirstFault, is_other_byte, is_high_count, is_high_value, is_wrong_end, fault_at, first_fault}
 use Rattle.table_file.specs.Reading.{tables_in, unless_fault, reading}
 use Rattle.table_file.proofs.GoodBytes.{IsBytes}
 use Rattle.table_file.proofs.FirstFaults.{file_end_least, first_fault_is_one}
 use Rattle.table_file.proofs.WholeFiles.{file_spells}
-use Rattle.table_file.proofs.Spellings.{Spells-reads, no_fault}
+use Rattle.table_file.proofs.Spellings.{SpellsTables-reads, no_fault}
 
 -- ---- four tests in a row
 
@@ -258,7 +258,7 @@ module _ (bytes : List ℕ) (never : (place : ℕ) (f : TableFault) → HasFault
       ]
 
   -- they spell the tables that stand in them
-  spells_without_fault : IsBytes bytes → Spells bytes (tables_in bytes)
+  spells_without_fault : IsBytes bytes → SpellsTables bytes (tables_in bytes)
   unfolding tables_in
   spells_without_fault are_bytes =
       let c : Counts = record { rows = count_in bytes 0; range = count_in bytes 1; fillers = count_in bytes 2; pairs = count_in bytes 3; range_fillers = count_in bytes 4 } in
@@ -278,10 +278,10 @@ module _ (bytes : List ℕ) (never : (place : ℕ) (f : TableFault) → HasFault
 
 -- ---- what bytes are read as
 
-pub reading-spells : (bytes : List ℕ) (t : Contents) → Spells bytes t → reading bytes ≡ Ok t
+pub reading-spells : (bytes : List ℕ) (t : Contents) → SpellsTables bytes t → reading bytes ≡ Ok t
 unfolding reading
 reading-spells bytes t spells =
-    ap (unless_fault (tables_in bytes)) (by_no_fault bytes (first_fault bytes) refl (no_fault bytes t spells)) ∙ ap Ok (Spells-reads bytes t spells)
+    ap (unless_fault (tables_in bytes)) (by_no_fault bytes (first_fault bytes) refl (no_fault bytes t spells)) ∙ ap Ok (SpellsTables-reads bytes t spells)
 
 pub reading-first : (bytes : List ℕ) (f : TableFault) → IsFirstFault bytes f → reading bytes ≡ Err f
 unfolding reading
@@ -295,11 +295,11 @@ err_unless : (u : Contents) (o : Option TableFault) (f : TableFault) → unless_
 err_unless u None f e = absurd (cc)
 err_unless u (Some g) f e = ap Some (let h : g ≡ f = cc in h)
 
-pub spells-reading : (bytes : List ℕ) (t : Contents) → IsBytes bytes → reading bytes ≡ Ok t → Spells bytes t
+pub spells-reading : (bytes : List ℕ) (t : Contents) → IsBytes bytes → reading bytes ≡ Ok t → SpellsTables bytes t
 unfolding reading
 spells-reading bytes t are_bytes e =
     let parts = ok_unless bytes t (tables_in bytes) (first_fault bytes) e in
-    subst (Spells bytes) parts.1 (spells_without_fault bytes (first_fault-none bytes parts.0) are_bytes)
+    subst (SpellsTables bytes) parts.1 (spells_without_fault bytes (first_fault-none bytes parts.0) are_bytes)
 
 pub first-reading : (bytes : List ℕ) (f : TableFault) → reading bytes ≡ Err f → IsFirstFault bytes f
 unfolding reading

@@ -5,13 +5,14 @@ use Rattle.std.specs.List.{flat_map}
 use Rattle.goldilocks.specs.declared.Felt.{Felt}
 use Rattle.goldilocks.specs.declared.Pair.{Pair}
 use Rattle.goldilocks.proofs.Pairs.{same_felt}
+use Rattle.goldilocks.specs.FileNumbers.{number_bytes}
 use Rattle.casm_word.specs.declared.State.{State}
 use Rattle.cpu_rows.specs.declared.Row.{Row}
 use Rattle.cpu_rows.specs.Columns.{columns, values, numbers}
 use Rattle.range_columns.specs.declared.RangeRow.{RangeRow}
-use Rattle.table_file.specs.FileNumbers.{number_bytes, numbers_bytes}
+use Rattle.table_file.specs.FileNumbers.{numbers_bytes}
 use Rattle.table_file.specs.Spelling.{row_values, state_values, range_row_values, pair_values}
-use Rattle.table_file.specs.Reading.{items_in, felts_in, felt_in, felt_zero, row_of, state_of, range_row_of, pair_of, row_in, state_in, range_row_in, pair_in}
+use Rattle.table_file.specs.Reading.{items_in, values_of_bytes, value_of_bytes, felt_zero, row_of_values, state_of_values, range_row_of_values, pair_of_values, row_of_bytes, state_of_bytes, range_row_of_bytes, pair_of_bytes}
 use Rattle.table_file.proofs.ItemLists.{found_again, flat_map-map}
 use Rattle.table_file.proofs.GoodBytes.{IsGood, IsGood-fewer, spelled_back, felt_finds, felt_reads}
 
@@ -28,17 +29,17 @@ same_numbers (x ∷ xs) (y ∷ ys) e =
     cc
 
 -- the values that good bytes hold spell them, and values are read of their bytes again
-values_read : (n : ℕ) (bytes : List ℕ) → length bytes ≡ 8 * n → IsGood n bytes → numbers_bytes (numbers (felts_in n bytes)) ≡ bytes
+values_read : (n : ℕ) (bytes : List ℕ) → length bytes ≡ 8 * n → IsGood n bytes → numbers_bytes (numbers (values_of_bytes n bytes)) ≡ bytes
 values_read n bytes whole good =
-    flat_map-map number_bytes (λ x. x.number) (felts_in n bytes)
-    ∙ (spelled_back 1 8 felt_in (λ x. number_bytes x.number) refl felt_reads n bytes (omega arith) (IsGood-fewer n (1 * n) bytes (omega arith) good)
+    flat_map-map number_bytes (λ x. x.number) (values_of_bytes n bytes)
+    ∙ (spelled_back 1 8 value_of_bytes (λ x. number_bytes x.number) refl felt_reads n bytes (omega arith) (IsGood-fewer n (1 * n) bytes (omega arith) good)
     ∙ take_all (8 * n) bytes (omega arith))
 
-values_found : (xs : List Felt) (n : ℕ) → length xs ≡ n → felts_in n (numbers_bytes (numbers xs)) ≡ xs
+values_found : (xs : List Felt) (n : ℕ) → length xs ≡ n → values_of_bytes n (numbers_bytes (numbers xs)) ≡ xs
 values_found xs n count =
-    ap (λ k. felts_in k (numbers_bytes (numbers xs))) (sym count)
-    ∙ (ap (felts_in (length xs)) (flat_map-map number_bytes (λ x. x.number) xs ∙ sym (append-nil (flat_map (λ (x : Felt). number_bytes x.number) xs)))
-    ∙ found_again 8 felt_in (λ x. number_bytes x.number) (λ _. Unit {0}) (λ x _. refl) (λ x _. felt_finds x) xs [] (λ k d inside. tt))
+    ap (λ k. values_of_bytes k (numbers_bytes (numbers xs))) (sym count)
+    ∙ (ap (values_of_bytes (length xs)) (flat_map-map number_bytes (λ x. x.number) xs ∙ sym (append-nil (flat_map (λ (x : Felt). number_bytes x.number) xs)))
+    ∙ found_again 8 value_of_bytes (λ x. number_bytes x.number) (λ _. Unit {0}) (λ x _. refl) (λ x _. felt_finds x) xs [] (λ k d inside. tt))
 
 -- so many numbers have so many bytes
 pub length-numbers_bytes : (ns : List ℕ) → length (numbers_bytes ns) ≡ 8 * length ns
@@ -63,8 +64,8 @@ behind tilde back k j sixteen at =
     ap (λ n. get_or (tilde ++ back) n felt_zero) (sym at ∙ ap (λ n. n + k) (sym sixteen)) ∙ get_or-append-add tilde back k felt_zero
 
 -- a row is that of its values
-row_of-row_felts : (r : Row) → length r.tilde ≡ 16 → row_of (row_felts r) ≡ r
-unfolding row_of row_felts back_felts
+row_of-row_felts : (r : Row) → length r.tilde ≡ 16 → row_of_values (row_felts r) ≡ r
+unfolding row_of_values row_felts back_felts
 row_of-row_felts r sixteen =
     let back = back_felts r in
     let tilde : take 16 (r.tilde ++ back) ≡ r.tilde = take_at r.tilde back 16 sixteen in
@@ -103,24 +104,24 @@ row_of-row_felts r sixteen =
     }
 
 -- the values of a row that is read are those of the bytes
-row_felts-row_in : (bytes : List ℕ) → row_felts (row_in bytes) ≡ felts_in 33 bytes
-unfolding row_in row_of row_felts back_felts items_in
-row_felts-row_in bytes = refl
+row_felts-row_of_bytes : (bytes : List ℕ) → row_felts (row_of_bytes bytes) ≡ values_of_bytes 33 bytes
+unfolding row_of_bytes row_of_values row_felts back_felts items_in
+row_felts-row_of_bytes bytes = refl
 
-pub sixteen_tilde : (bytes : List ℕ) → length (row_in bytes).tilde ≡ 16
-unfolding row_in row_of items_in
+pub sixteen_tilde : (bytes : List ℕ) → length (row_of_bytes bytes).tilde ≡ 16
+unfolding row_of_bytes row_of_values items_in
 sixteen_tilde bytes = refl
 
 -- rows of the same values are the same
 pub same_row : (a b : Row) → length a.tilde ≡ 16 → length b.tilde ≡ 16 → values (columns a) ≡ values (columns b) → a ≡ b
 same_row a b sa sb e =
     let felts : row_felts a ≡ row_felts b = same_numbers (row_felts a) (row_felts b) (sym (row_values-numbers a) ∙ (e ∙ row_values-numbers b)) in
-    sym (row_of-row_felts a sa) ∙ (ap row_of felts ∙ row_of-row_felts b sb)
+    sym (row_of-row_felts a sa) ∙ (ap row_of_values felts ∙ row_of-row_felts b sb)
 
 -- a row whose values are those of the bytes is the one that is read of them
-pub row_in-values : (r : Row) (bytes : List ℕ) → length r.tilde ≡ 16 → values (columns r) ≡ numbers (felts_in 33 bytes) → r ≡ row_in bytes
-row_in-values r bytes sixteen e =
-    same_row r (row_in bytes) sixteen (sixteen_tilde bytes) (e ∙ (ap numbers (sym (row_felts-row_in bytes)) ∙ sym (row_values-numbers (row_in bytes))))
+pub row_of_bytes-values : (r : Row) (bytes : List ℕ) → length r.tilde ≡ 16 → values (columns r) ≡ numbers (values_of_bytes 33 bytes) → r ≡ row_of_bytes bytes
+row_of_bytes-values r bytes sixteen e =
+    same_row r (row_of_bytes bytes) sixteen (sixteen_tilde bytes) (e ∙ (ap numbers (sym (row_felts-row_of_bytes bytes)) ∙ sym (row_values-numbers (row_of_bytes bytes))))
 
 length-row_felts : (r : Row) → length r.tilde ≡ 16 → length (row_felts r) ≡ 33
 unfolding row_felts back_felts
@@ -130,41 +131,41 @@ pub row_width : (r : Row) → length r.tilde ≡ 16 → length (numbers_bytes (r
 row_width r sixteen =
     omega (arith, length-numbers_bytes (row_values r), ap length (row_values-numbers r), length-map (row_felts r) (λ (x : Felt). x.number), length-row_felts r sixteen)
 
-pub row_finds : (r : Row) → length r.tilde ≡ 16 → row_in (numbers_bytes (row_values r)) ≡ r
-unfolding row_in
+pub row_finds : (r : Row) → length r.tilde ≡ 16 → row_of_bytes (numbers_bytes (row_values r)) ≡ r
+unfolding row_of_bytes
 row_finds r sixteen =
-    ap (λ ns. row_of (felts_in 33 (numbers_bytes ns))) (row_values-numbers r)
-    ∙ (ap row_of (values_found (row_felts r) 33 (length-row_felts r sixteen)) ∙ row_of-row_felts r sixteen)
+    ap (λ ns. row_of_values (values_of_bytes 33 (numbers_bytes ns))) (row_values-numbers r)
+    ∙ (ap row_of_values (values_found (row_felts r) 33 (length-row_felts r sixteen)) ∙ row_of-row_felts r sixteen)
 
-pub row_reads : (bytes : List ℕ) → length bytes ≡ 264 → IsGood 33 bytes → numbers_bytes (row_values (row_in bytes)) ≡ bytes
+pub row_reads : (bytes : List ℕ) → length bytes ≡ 264 → IsGood 33 bytes → numbers_bytes (row_values (row_of_bytes bytes)) ≡ bytes
 row_reads bytes whole good =
-    ap numbers_bytes (row_values-numbers (row_in bytes))
-    ∙ (ap (λ xs. numbers_bytes (numbers xs)) (row_felts-row_in bytes) ∙ values_read 33 bytes whole good)
+    ap numbers_bytes (row_values-numbers (row_of_bytes bytes))
+    ∙ (ap (λ xs. numbers_bytes (numbers xs)) (row_felts-row_of_bytes bytes) ∙ values_read 33 bytes whole good)
 
 -- ---- states, range rows and pairs
 
-pub state_finds : (s : State) → state_in (numbers_bytes (state_values s)) ≡ s
-unfolding state_in state_of
-state_finds s = ap state_of (values_found (s.pc ∷ s.ap ∷ s.fp ∷ []) 3 refl)
+pub state_finds : (s : State) → state_of_bytes (numbers_bytes (state_values s)) ≡ s
+unfolding state_of_bytes state_of_values
+state_finds s = ap state_of_values (values_found (s.pc ∷ s.ap ∷ s.fp ∷ []) 3 refl)
 
-pub state_reads : (bytes : List ℕ) → length bytes ≡ 24 → IsGood 3 bytes → numbers_bytes (state_values (state_in bytes)) ≡ bytes
-unfolding state_in state_of items_in
+pub state_reads : (bytes : List ℕ) → length bytes ≡ 24 → IsGood 3 bytes → numbers_bytes (state_values (state_of_bytes bytes)) ≡ bytes
+unfolding state_of_bytes state_of_values items_in
 state_reads bytes whole good = values_read 3 bytes whole good
 
-pub range_row_finds : (r : RangeRow) → range_row_in (numbers_bytes (range_row_values r)) ≡ r
-unfolding range_row_in range_row_of
-range_row_finds r = ap range_row_of (values_found (r.value ∷ r.l0 ∷ r.l1 ∷ r.l2 ∷ []) 4 refl)
+pub range_row_finds : (r : RangeRow) → range_row_of_bytes (numbers_bytes (range_row_values r)) ≡ r
+unfolding range_row_of_bytes range_row_of_values
+range_row_finds r = ap range_row_of_values (values_found (r.value ∷ r.l0 ∷ r.l1 ∷ r.l2 ∷ []) 4 refl)
 
-pub range_row_reads : (bytes : List ℕ) → length bytes ≡ 32 → IsGood 4 bytes → numbers_bytes (range_row_values (range_row_in bytes)) ≡ bytes
-unfolding range_row_in range_row_of items_in
+pub range_row_reads : (bytes : List ℕ) → length bytes ≡ 32 → IsGood 4 bytes → numbers_bytes (range_row_values (range_row_of_bytes bytes)) ≡ bytes
+unfolding range_row_of_bytes range_row_of_values items_in
 range_row_reads bytes whole good = values_read 4 bytes whole good
 
-pub pair_finds : (p : Pair) → pair_in (numbers_bytes (pair_values p)) ≡ p
-unfolding pair_in pair_of
-pair_finds p = ap pair_of (values_found (p.addr ∷ p.value ∷ []) 2 refl)
+pub pair_finds : (p : Pair) → pair_of_bytes (numbers_bytes (pair_values p)) ≡ p
+unfolding pair_of_bytes pair_of_values
+pair_finds p = ap pair_of_values (values_found (p.addr ∷ p.value ∷ []) 2 refl)
 
-pub pair_reads : (bytes : List ℕ) → length bytes ≡ 16 → IsGood 2 bytes → numbers_bytes (pair_values (pair_in bytes)) ≡ bytes
-unfolding pair_in pair_of items_in
+pub pair_reads : (bytes : List ℕ) → length bytes ≡ 16 → IsGood 2 bytes → numbers_bytes (pair_values (pair_of_bytes bytes)) ≡ bytes
+unfolding pair_of_bytes pair_of_values items_in
 pair_reads bytes whole good = values_read 2 bytes whole good
 
 -- a row whose values are 33 has sixteen of tilde

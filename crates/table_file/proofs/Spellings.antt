@@ -9,16 +9,17 @@ use Rattle.std.specs.List.{flat_map, All}
 use Rattle.goldilocks.specs.declared.Felt.{Felt}
 use Rattle.goldilocks.specs.declared.Pair.{Pair}
 use Rattle.goldilocks.specs.Field.{prime}
+use Rattle.goldilocks.specs.FileNumbers.{number_bytes, number_at}
 use Rattle.cpu_rows.specs.declared.Row.{Row}
 use Rattle.cpu_rows.specs.Columns.{numbers}
 use Rattle.range_columns.specs.declared.RangeRow.{RangeRow}
 use Rattle.table_file.specs.declared.TableFault.{TableFault}
 use Rattle.table_file.specs.declared.TableFault.TheVariants.{Magic, TooMany, NotField, Length, Memory}
 use Rattle.table_file.specs.Tables.{Contents, AreValid}
-use Rattle.table_file.specs.FileNumbers.{number_bytes, numbers_bytes, number_at}
-use Rattle.table_file.specs.Spelling.{magic, counts, row_values, state_values, range_row_values, pair_values, all_values, spelling, Spells}
+use Rattle.table_file.specs.FileNumbers.{numbers_bytes}
+use Rattle.table_file.specs.Spelling.{magic, counts, row_values, state_values, range_row_values, pair_values, all_values, spelling, SpellsTables}
 use Rattle.table_file.specs.Faults.{count_in, count_limits, value_count, file_end, HasFault}
-use Rattle.table_file.specs.Reading.{items_in, felt_in, row_in, state_in, range_row_in, pair_in, lists_in, tables_in}
+use Rattle.table_file.specs.Reading.{items_in, value_of_bytes, row_of_bytes, state_of_bytes, range_row_of_bytes, pair_of_bytes, lists_in, tables_in}
 use Rattle.table_file.specs.Parts.{HasText, HasLowValues}
 use Rattle.table_file.proofs.ItemLists.{found_again, length-spelled}
 use Rattle.table_file.proofs.GoodBytes.{number_at-drop, felt_finds}
@@ -125,45 +126,45 @@ module _ (t : Contents) (valid : AreValid t) (sixteen : All (λ r. length r.tild
   r6 = drop (8 * length t.range_fillers) r5
 
   d1 : r1 ≡ p1
-  d1 = rest_found 264 row_in (λ r. numbers_bytes (row_values r)) (λ r. length r.tilde ≡ 16) row_width row_finds t.rows p0 p1 sixteen refl
+  d1 = rest_found 264 row_of_bytes (λ r. numbers_bytes (row_values r)) (λ r. length r.tilde ≡ 16) row_width row_finds t.rows p0 p1 sixteen refl
 
   d2 : r2 ≡ p2
   d2 = ap (drop 24) d1 ∙ drop_at (numbers_bytes (state_values t.last)) p2 24 refl
 
   d3 : r3 ≡ p3
-  d3 = rest_found 32 range_row_in (λ r. numbers_bytes (range_row_values r)) Any (λ r _. refl) (λ r _. range_row_finds r) t.range r2 p3 (all_any t.range) d2
+  d3 = rest_found 32 range_row_of_bytes (λ r. numbers_bytes (range_row_values r)) Any (λ r _. refl) (λ r _. range_row_finds r) t.range r2 p3 (all_any t.range) d2
 
   d4 : r4 ≡ p4
-  d4 = rest_found 16 pair_in (λ p. numbers_bytes (pair_values p)) Any (λ p _. refl) (λ p _. pair_finds p) t.fillers r3 p4 (all_any t.fillers) d3
+  d4 = rest_found 16 pair_of_bytes (λ p. numbers_bytes (pair_values p)) Any (λ p _. refl) (λ p _. pair_finds p) t.fillers r3 p4 (all_any t.fillers) d3
 
   d5 : r5 ≡ p5
-  d5 = rest_found 16 pair_in (λ p. numbers_bytes (pair_values p)) Any (λ p _. refl) (λ p _. pair_finds p) t.pairs r4 p5 (all_any t.pairs) d4
+  d5 = rest_found 16 pair_of_bytes (λ p. numbers_bytes (pair_values p)) Any (λ p _. refl) (λ p _. pair_finds p) t.pairs r4 p5 (all_any t.pairs) d4
 
   d6 : r6 ≡ p6
-  d6 = rest_found 8 felt_in (λ x. number_bytes x.number) Any (λ x _. refl) (λ x _. felt_finds x) t.range_fillers r5 p6 (all_any t.range_fillers) d5
+  d6 = rest_found 8 value_of_bytes (λ x. number_bytes x.number) Any (λ x _. refl) (λ x _. felt_finds x) t.range_fillers r5 p6 (all_any t.range_fillers) d5
 
-  rows_found : items_in 264 row_in (length t.rows) p0 ≡ t.rows
-  rows_found = list_found 264 row_in (λ r. numbers_bytes (row_values r)) (λ r. length r.tilde ≡ 16) row_width row_finds t.rows p0 p1 sixteen refl
+  rows_found : items_in 264 row_of_bytes (length t.rows) p0 ≡ t.rows
+  rows_found = list_found 264 row_of_bytes (λ r. numbers_bytes (row_values r)) (λ r. length r.tilde ≡ 16) row_width row_finds t.rows p0 p1 sixteen refl
 
-  last_found : state_in (take 24 r1) ≡ t.last
-  last_found = ap (λ xs. state_in (take 24 xs)) d1 ∙ (ap state_in (take_at (numbers_bytes (state_values t.last)) p2 24 refl) ∙ state_finds t.last)
+  last_found : state_of_bytes (take 24 r1) ≡ t.last
+  last_found = ap (λ xs. state_of_bytes (take 24 xs)) d1 ∙ (ap state_of_bytes (take_at (numbers_bytes (state_values t.last)) p2 24 refl) ∙ state_finds t.last)
 
-  range_found : items_in 32 range_row_in (length t.range) r2 ≡ t.range
-  range_found = list_found 32 range_row_in (λ r. numbers_bytes (range_row_values r)) Any (λ r _. refl) (λ r _. range_row_finds r) t.range r2 p3 (all_any t.range) d2
+  range_found : items_in 32 range_row_of_bytes (length t.range) r2 ≡ t.range
+  range_found = list_found 32 range_row_of_bytes (λ r. numbers_bytes (range_row_values r)) Any (λ r _. refl) (λ r _. range_row_finds r) t.range r2 p3 (all_any t.range) d2
 
-  fillers_found : items_in 16 pair_in (length t.fillers) r3 ≡ t.fillers
-  fillers_found = list_found 16 pair_in (λ p. numbers_bytes (pair_values p)) Any (λ p _. refl) (λ p _. pair_finds p) t.fillers r3 p4 (all_any t.fillers) d3
+  fillers_found : items_in 16 pair_of_bytes (length t.fillers) r3 ≡ t.fillers
+  fillers_found = list_found 16 pair_of_bytes (λ p. numbers_bytes (pair_values p)) Any (λ p _. refl) (λ p _. pair_finds p) t.fillers r3 p4 (all_any t.fillers) d3
 
-  pairs_found : items_in 16 pair_in (length t.pairs) r4 ≡ t.pairs
-  pairs_found = list_found 16 pair_in (λ p. numbers_bytes (pair_values p)) Any (λ p _. refl) (λ p _. pair_finds p) t.pairs r4 p5 (all_any t.pairs) d4
+  pairs_found : items_in 16 pair_of_bytes (length t.pairs) r4 ≡ t.pairs
+  pairs_found = list_found 16 pair_of_bytes (λ p. numbers_bytes (pair_values p)) Any (λ p _. refl) (λ p _. pair_finds p) t.pairs r4 p5 (all_any t.pairs) d4
 
-  range_fillers_found : items_in 8 felt_in (length t.range_fillers) r5 ≡ t.range_fillers
-  range_fillers_found = list_found 8 felt_in (λ x. number_bytes x.number) Any (λ x _. refl) (λ x _. felt_finds x) t.range_fillers r5 p6 (all_any t.range_fillers) d5
+  range_fillers_found : items_in 8 value_of_bytes (length t.range_fillers) r5 ≡ t.range_fillers
+  range_fillers_found = list_found 8 value_of_bytes (λ x. number_bytes x.number) Any (λ x _. refl) (λ x _. felt_finds x) t.range_fillers r5 p6 (all_any t.range_fillers) d5
 
-  sorted_range_found : items_in 8 felt_in (3 * length t.rows + 3 * length t.range + length t.range_fillers) r6 ≡ t.sorted_range
+  sorted_range_found : items_in 8 value_of_bytes (3 * length t.rows + 3 * length t.range + length t.range_fillers) r6 ≡ t.sorted_range
   sorted_range_found =
-      ap (λ n. items_in 8 felt_in n r6) (sym valid.sorted_range_count)
-      ∙ list_found 8 felt_in (λ x. number_bytes x.number) Any (λ x _. refl) (λ x _. felt_finds x) t.sorted_range r6 [] (all_any t.sorted_range) (d6 ∙ sym (append-nil p6))
+      ap (λ n. items_in 8 value_of_bytes n r6) (sym valid.sorted_range_count)
+      ∙ list_found 8 value_of_bytes (λ x. number_bytes x.number) Any (λ x _. refl) (λ x _. felt_finds x) t.sorted_range r6 [] (all_any t.sorted_range) (d6 ∙ sym (append-nil p6))
 
   lists_found : lists_in (length t.rows) (length t.range) (length t.fillers) (length t.pairs) (length t.range_fillers) (lists_bytes t) ≡ t
   unfolding lists_in lists_bytes
@@ -183,12 +184,12 @@ module _ (t : Contents) (valid : AreValid t) (sixteen : All (λ r. length r.tild
   length-lists_bytes : length (lists_bytes t) ≡ 8 * values_length
   unfolding lists_bytes
   length-lists_bytes =
-      let rows = length-spelled 264 row_in (λ r. numbers_bytes (row_values r)) (λ r. length r.tilde ≡ 16) row_width t.rows sixteen in
-      let range = length-spelled 32 range_row_in (λ r. numbers_bytes (range_row_values r)) Any (λ r _. refl) t.range (all_any t.range) in
-      let fillers = length-spelled 16 pair_in (λ p. numbers_bytes (pair_values p)) Any (λ p _. refl) t.fillers (all_any t.fillers) in
-      let pairs = length-spelled 16 pair_in (λ p. numbers_bytes (pair_values p)) Any (λ p _. refl) t.pairs (all_any t.pairs) in
-      let range_fillers = length-spelled 8 felt_in (λ x. number_bytes x.number) Any (λ x _. refl) t.range_fillers (all_any t.range_fillers) in
-      let sorted_range = length-spelled 8 felt_in (λ x. number_bytes x.number) Any (λ x _. refl) t.sorted_range (all_any t.sorted_range) in
+      let rows = length-spelled 264 row_of_bytes (λ r. numbers_bytes (row_values r)) (λ r. length r.tilde ≡ 16) row_width t.rows sixteen in
+      let range = length-spelled 32 range_row_of_bytes (λ r. numbers_bytes (range_row_values r)) Any (λ r _. refl) t.range (all_any t.range) in
+      let fillers = length-spelled 16 pair_of_bytes (λ p. numbers_bytes (pair_values p)) Any (λ p _. refl) t.fillers (all_any t.fillers) in
+      let pairs = length-spelled 16 pair_of_bytes (λ p. numbers_bytes (pair_values p)) Any (λ p _. refl) t.pairs (all_any t.pairs) in
+      let range_fillers = length-spelled 8 value_of_bytes (λ x. number_bytes x.number) Any (λ x _. refl) t.range_fillers (all_any t.range_fillers) in
+      let sorted_range = length-spelled 8 value_of_bytes (λ x. number_bytes x.number) Any (λ x _. refl) t.sorted_range (all_any t.sorted_range) in
       let a0 = length-append (flat_map (λ (r : Row). numbers_bytes (row_values r)) t.rows) p1 in
       let a1 = length-append (numbers_bytes (state_values t.last)) p2 in
       let a2 = length-append (flat_map (λ (r : RangeRow). numbers_bytes (range_row_values r)) t.range) p3 in
@@ -300,14 +301,14 @@ module _ (t : Contents) (valid : AreValid t) (sixteen : All (λ r. length r.tild
       } in
       none_behind bytes place f ends (fault_behind bytes (length bytes) clean place f has) has
 
-pub Spells-reads : (bytes : List ℕ) (t : Contents) → Spells bytes t → tables_in bytes ≡ t
-Spells-reads bytes t spells = ap tables_in spells.parts ∙ read_again t spells.valid spells.sixteen
+pub SpellsTables-reads : (bytes : List ℕ) (t : Contents) → SpellsTables bytes t → tables_in bytes ≡ t
+SpellsTables-reads bytes t spells = ap tables_in spells.parts ∙ read_again t spells.valid spells.sixteen
 
 -- bytes spell one tables at most
-pub spelled_once : (bytes : List ℕ) (t u : Contents) → Spells bytes t → Spells bytes u → t ≡ u
-spelled_once bytes t u one other = sym (Spells-reads bytes t one) ∙ Spells-reads bytes u other
+pub spelled_once : (bytes : List ℕ) (t u : Contents) → SpellsTables bytes t → SpellsTables bytes u → t ≡ u
+spelled_once bytes t u one other = sym (SpellsTables-reads bytes t one) ∙ SpellsTables-reads bytes u other
 
 -- bytes that spell tables have no fault
-pub no_fault : (bytes : List ℕ) (t : Contents) → Spells bytes t → (place : ℕ) (f : TableFault) → HasFault bytes place f → ⊥
+pub no_fault : (bytes : List ℕ) (t : Contents) → SpellsTables bytes t → (place : ℕ) (f : TableFault) → HasFault bytes place f → ⊥
 no_fault bytes t spells place f has =
     no_fault_in t spells.valid spells.sixteen place f (subst (λ xs. HasFault xs place f) spells.parts has)

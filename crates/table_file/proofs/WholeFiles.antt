@@ -7,13 +7,14 @@ use Rattle.std.specs.Int.{w64, from_le_bytes}
 use Rattle.std.specs.List.{flat_map}
 use Rattle.std.proofs.lemmas.Nat.{le_bytes_8}
 use Rattle.goldilocks.specs.Field.{prime}
+use Rattle.goldilocks.specs.FileNumbers.{number_bytes}
 use Rattle.cpu_rows.specs.Columns.{numbers}
 use Rattle.table_file.specs.declared.head.Counts.{Counts}
 use Rattle.table_file.specs.Tables.{Contents}
-use Rattle.table_file.specs.FileNumbers.{number_bytes, numbers_bytes}
-use Rattle.table_file.specs.Spelling.{magic, counts, row_values, state_values, range_row_values, pair_values, all_values, spelling, Spells}
+use Rattle.table_file.specs.FileNumbers.{numbers_bytes}
+use Rattle.table_file.specs.Spelling.{magic, counts, row_values, state_values, range_row_values, pair_values, all_values, spelling, SpellsTables}
 use Rattle.table_file.specs.Faults.{count_in, count_limits, value_count, value_place, file_end}
-use Rattle.table_file.specs.Reading.{items_in, felt_in, row_in, state_in, range_row_in, pair_in, lists_in}
+use Rattle.table_file.specs.Reading.{items_in, value_of_bytes, row_of_bytes, state_of_bytes, range_row_of_bytes, pair_of_bytes, lists_in}
 use Rattle.table_file.specs.Parts.{IsHead, AreLow, values_by, IsWholeFile}
 use Rattle.table_file.proofs.ItemLists.{length-items_in, All-items_in, flat_map-flat_map, flat_map-map}
 use Rattle.table_file.proofs.GoodBytes.{IsBytes, IsBytes-drop, IsGood, IsGood-fewer, good_back, good_front, spelled_back, number_at-drop, felt_reads}
@@ -124,17 +125,17 @@ module _ (a b c d e : ℕ) (bytes : List ℕ) (whole : length bytes ≡ 8 * valu
   pub lists_back : lists_bytes (lists_in a b c d e bytes) ≡ bytes
   unfolding lists_bytes lists_in
   lists_back =
-      let last_list : flat_map (λ x. number_bytes x.number) (items_in 8 felt_in s r6) ≡ r6 =
-      spelled_back 1 8 felt_in (λ x. number_bytes x.number) refl felt_reads s r6 (omega (arith, l6)) (IsGood-fewer s (1 * s) r6 (omega arith) g6)
+      let last_list : flat_map (λ x. number_bytes x.number) (items_in 8 value_of_bytes s r6) ≡ r6 =
+      spelled_back 1 8 value_of_bytes (λ x. number_bytes x.number) refl felt_reads s r6 (omega (arith, l6)) (IsGood-fewer s (1 * s) r6 (omega arith) g6)
       ∙ take_all (8 * s) r6 (omega (arith, l6)) in
-      let fillers = list_and_rest 1 8 felt_in (λ x. number_bytes x.number) refl felt_reads e s r5 r6 (omega (arith, l5)) (IsGood-fewer (e + s) (1 * e + s) r5 (omega arith) g5) refl in
-      let pairs = list_and_rest 2 16 pair_in (λ p. numbers_bytes (pair_values p)) refl pair_reads d (e + s) r4 r5 (omega (arith, l4)) g4 refl in
-      let cells = list_and_rest 2 16 pair_in (λ p. numbers_bytes (pair_values p)) refl pair_reads c (2 * d + (e + s)) r3 r4 (omega (arith, l3)) g3 refl in
-      let range = list_and_rest 4 32 range_row_in (λ r. numbers_bytes (range_row_values r)) refl range_row_reads b (2 * c + (2 * d + (e + s))) r2 r3 (omega (arith, l2)) g2 refl in
+      let fillers = list_and_rest 1 8 value_of_bytes (λ x. number_bytes x.number) refl felt_reads e s r5 r6 (omega (arith, l5)) (IsGood-fewer (e + s) (1 * e + s) r5 (omega arith) g5) refl in
+      let pairs = list_and_rest 2 16 pair_of_bytes (λ p. numbers_bytes (pair_values p)) refl pair_reads d (e + s) r4 r5 (omega (arith, l4)) g4 refl in
+      let cells = list_and_rest 2 16 pair_of_bytes (λ p. numbers_bytes (pair_values p)) refl pair_reads c (2 * d + (e + s)) r3 r4 (omega (arith, l3)) g3 refl in
+      let range = list_and_rest 4 32 range_row_of_bytes (λ r. numbers_bytes (range_row_values r)) refl range_row_reads b (2 * c + (2 * d + (e + s))) r2 r3 (omega (arith, l2)) g2 refl in
       let front : IsGood 3 (take 24 r1) = good_front 3 (4 * b + (2 * c + (2 * d + (e + s)))) r1 g1 in
-      let last : numbers_bytes (state_values (state_in (take 24 r1))) ++ r2 ≡ r1 =
+      let last : numbers_bytes (state_values (state_of_bytes (take 24 r1))) ++ r2 ≡ r1 =
       ap (λ xs. xs ++ r2) (state_reads (take 24 r1) (length-take-le 24 r1 (omega (arith, l1))) front) ∙ take-append-drop 24 r1 in
-      let rows = list_and_rest 33 264 row_in (λ r. numbers_bytes (row_values r)) refl row_reads a (3 + (4 * b + (2 * c + (2 * d + (e + s))))) bytes r1 (omega arith) g0 refl in
+      let rows = list_and_rest 33 264 row_of_bytes (λ r. numbers_bytes (row_values r)) refl row_reads a (3 + (4 * b + (2 * c + (2 * d + (e + s))))) bytes r1 (omega arith) g0 refl in
       rw (last_list, fillers, pairs, cells, range, last, rows) refl
 
 -- ---- the head
@@ -218,19 +219,19 @@ module _ (bytes : List ℕ) (c : Counts) (are_bytes : IsBytes bytes) (file : IsW
       ∙ (ap (λ xs. take 40 (drop 8 bytes) ++ xs) (values ∙ sym behind) ∙ take-append-drop 40 (drop 8 bytes)) in
       sym (ap (λ xs. magic ++ xs) after_text ∙ (ap (λ xs. xs ++ drop 8 bytes) (sym text) ∙ take-append-drop 8 bytes))
 
-  pub file_spells : Spells bytes t
+  pub file_spells : SpellsTables bytes t
   unfolding lists_in
   file_spells =
       let low = low_counts bytes c file.head in
       record {
         parts = spelled;
         valid = record {
-          row_count = omega (arith, length-items_in 264 row_in c.rows (drop 48 bytes), low.rows);
-          range_row_count = omega (arith, length-items_in 32 range_row_in c.range (drop 24 (drop (264 * c.rows) (drop 48 bytes))), low.range);
+          row_count = omega (arith, length-items_in 264 row_of_bytes c.rows (drop 48 bytes), low.rows);
+          range_row_count = omega (arith, length-items_in 32 range_row_of_bytes c.range (drop 24 (drop (264 * c.rows) (drop 48 bytes))), low.range);
           filler_count = rw length-items_in low.fillers;
           pair_count = rw length-items_in low.pairs;
           range_filler_count = rw length-items_in low.range_fillers;
           sorted_range_count = rw (length-items_in, length-items_in, length-items_in, length-items_in) refl;
         };
-        sixteen = All-items_in 264 row_in (λ r. length r.tilde ≡ 16) sixteen_tilde c.rows (drop 48 bytes);
+        sixteen = All-items_in 264 row_of_bytes (λ r. length r.tilde ≡ 16) sixteen_tilde c.rows (drop 48 bytes);
       }

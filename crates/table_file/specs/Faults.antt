@@ -2,20 +2,22 @@
 use Rattle.std.specs.Prelude.{ℕ, ◌≡◌, ◌≢◌, ◌⊎◌, ◌+◌, ◌-◌, ◌*◌, ◌/◌, ◌%◌, ◌<◌, ◌≤◌, min, Bool, not, ◌&&◌, ◌==◌, nat_lt, nat_le, List, [], ◌∷◌, length, slice_index, slice_get, Option, Some, None, if◌then◌else◌}
 use Rattle.std.specs.List.{filter_map, range_with_len}
 use Rattle.goldilocks.specs.Field.{prime}
+use Rattle.goldilocks.specs.FileNumbers.{number_at}
+use Rattle.memory_columns.specs.Filling.{most_fillers}
 use Rattle.table_file.specs.declared.TableFault.{TableFault}
 use Rattle.table_file.specs.declared.TableFault.TheVariants.{Magic, TooMany, NotField, Length, Memory}
-use Rattle.table_file.specs.FileNumbers.{number_at}
 use Rattle.table_file.specs.Spelling.{magic}
-use Rattle.table_file.specs.Tables.{most_rows, most_range_rows, most_fillers, most_pairs, most_range_fillers}
+use Rattle.table_file.specs.Tables.{most_rows, most_range_rows, most_pairs, most_range_fillers}
 
 -- The limits of the counts, in their order. Own.
 abbrev pub count_limits : List ℕ
 count_limits = most_rows ∷ most_range_rows ∷ most_fillers ∷ most_pairs ∷ most_range_fillers ∷ []
 
--- Where count k and value k begin, counted from 0. Own.
+-- Where count k begins; k counts from 0. Own.
 abbrev pub count_place : ℕ → ℕ
 count_place k = 8 + 8 * k
 
+-- Where value k begins; k counts from 0. Own.
 abbrev pub value_place : ℕ → ℕ
 value_place k = 48 + 8 * k
 
@@ -55,11 +57,12 @@ pub record IsHighValue (bytes : List ℕ) (place : ℕ) : Type 0 where
   pub whole : place + 8 ≤ length bytes
   pub above : prime ≤ number_at bytes place
 
--- The bytes end here, before the file does; the file ends here, and a byte follows. Own.
+-- The bytes end here, and the file would end further on. Own.
 pub record EndsEarly (bytes : List ℕ) (place : ℕ) : Type 0 where
   pub ends : place ≡ length bytes
   pub early : length bytes < file_end bytes
 
+-- The file ends here by its counts, and a byte follows. Own.
 pub record IsFollowed (bytes : List ℕ) (place : ℕ) : Type 0 where
   pub ends : place ≡ file_end bytes
   pub followed : file_end bytes < length bytes
@@ -80,20 +83,23 @@ pub record IsFirstFault (bytes : List ℕ) (fault : TableFault) : Type 0 where
 
 -- ---- the same as a test at each place
 
--- Whether a byte of the text is another; a count is too high; a value is p or more; the bytes end early or are followed. Own.
+-- Whether a byte of the file's text is there, and is another one. Own.
 unfoldable pub is_other_byte : List ℕ → ℕ → Bool
 is_other_byte bytes place = nat_lt place 8 && nat_lt place (length bytes) && not (slice_index bytes place == slice_index magic place)
 
+-- Whether a count is there as a whole, and is above its limit. Own.
 unfoldable pub is_high_count : List ℕ → ℕ → Bool
 is_high_count bytes place =
     nat_le 8 place && nat_lt place 48 && (place % 8 == 0) && nat_le (place + 8) (length bytes)
     && nat_lt (slice_index count_limits ((place - 8) / 8)) (number_at bytes place)
 
+-- Whether a value of the file is there as a whole, and is p or more. Own.
 unfoldable pub is_high_value : List ℕ → ℕ → Bool
 is_high_value bytes place =
     nat_le 48 place && nat_lt place (file_end bytes) && (place % 8 == 0) && nat_le (place + 8) (length bytes)
     && nat_le prime (number_at bytes place)
 
+-- Whether the bytes end early here, or the file ends here and a byte follows. Own.
 unfoldable pub is_wrong_end : List ℕ → ℕ → Bool
 is_wrong_end bytes place = (place == min (length bytes) (file_end bytes)) && not (length bytes == file_end bytes)
 

@@ -1,10 +1,11 @@
 -- What the parts of the reader say of the bytes. Only private contracts cite these.
 use Rattle.std.specs.Prelude.{ℕ, ◌≡◌, ◌+◌, ◌<◌, ◌≤◌, List, [], ◌∷◌, length, slice_index}
 use Rattle.goldilocks.specs.Field.{prime}
+use Rattle.goldilocks.specs.FileNumbers.{number_at}
+use Rattle.memory_columns.specs.Filling.{most_fillers}
 use Rattle.table_file.specs.declared.head.Counts.{Counts}
-use Rattle.table_file.specs.FileNumbers.{number_at}
 use Rattle.table_file.specs.Spelling.{magic}
-use Rattle.table_file.specs.Tables.{most_rows, most_range_rows, most_fillers, most_pairs, most_range_fillers}
+use Rattle.table_file.specs.Tables.{most_rows, most_range_rows, most_pairs, most_range_fillers}
 use Rattle.table_file.specs.Faults.{count_in, count_limits, count_place, value_count, value_place, file_end}
 
 -- Those of the first eight bytes that are there are the file's text. Own.

@@ -1,11 +1,10 @@
 -- The tables that bytes can spell: what stands at the places of a tables file.
-use Rattle.std.specs.Prelude.{ℕ, zero, suc, ◌+◌, ◌*◌, ◌%◌, List, [], ◌∷◌, take, drop, slice_index_or, Option, Some, None, Result, Ok, Err}
+use Rattle.std.specs.Prelude.{ℕ, zero, suc, ◌+◌, ◌*◌, List, [], ◌∷◌, take, drop, slice_index_or, Option, Some, None, Result, Ok, Err}
 use Rattle.std.specs.Int.{w64, from_le_bytes}
 use Rattle.std.proofs.Common.{lit<}
-use Rattle.std.proofs.Math.Nat.{mod-lt}
-use Rattle.goldilocks.specs.Field.{prime}
 use Rattle.goldilocks.specs.declared.Felt.{Felt}
 use Rattle.goldilocks.specs.declared.Pair.{Pair}
+use Rattle.goldilocks.specs.Felts.{felt}
 use Rattle.casm_word.specs.declared.State.{State}
 use Rattle.cpu_rows.specs.declared.Row.{Row}
 use Rattle.range_columns.specs.declared.RangeRow.{RangeRow}
@@ -23,62 +22,67 @@ unfoldable pub felt_zero : Felt
 felt_zero = record { number = 0; in_field = lit< tt }
 
 -- The value of eight bytes: their number, modulo p. Own.
-unfoldable pub felt_in : List ℕ → Felt
-felt_in bytes = record { number = from_le_bytes w64 bytes % prime; in_field = mod-lt (from_le_bytes w64 bytes) (lit< tt) }
+unfoldable pub value_of_bytes : List ℕ → Felt
+value_of_bytes bytes = felt (from_le_bytes w64 bytes)
 
 -- Value k of a list of values. Own.
-abbrev pub felt_of : List Felt → ℕ → Felt
-felt_of values k = slice_index_or values k felt_zero
+abbrev pub value_at : List Felt → ℕ → Felt
+value_at values k = slice_index_or values k felt_zero
 
 -- The values of these many bytes, eight for each. Own.
-abbrev pub felts_in : ℕ → List ℕ → List Felt
-felts_in n bytes = items_in 8 felt_in n bytes
+abbrev pub values_of_bytes : ℕ → List ℕ → List Felt
+values_of_bytes n bytes = items_in 8 value_of_bytes n bytes
 
 -- The row of 33 values, in the order of its columns. Own.
-unfoldable pub row_of : List Felt → Row
-row_of v = record {
-  pc = felt_of v 0;
-  ap = felt_of v 1;
-  fp = felt_of v 2;
-  inst = felt_of v 3;
+unfoldable pub row_of_values : List Felt → Row
+row_of_values v = record {
+  pc = value_at v 0;
+  ap = value_at v 1;
+  fp = value_at v 2;
+  inst = value_at v 3;
   tilde = take 16 (drop 4 v);
-  off_dst = felt_of v 20;
-  off_op0 = felt_of v 21;
-  off_op1 = felt_of v 22;
-  dst_addr = felt_of v 23;
-  op0_addr = felt_of v 24;
-  op1_addr = felt_of v 25;
-  dst = felt_of v 26;
-  op0 = felt_of v 27;
-  op1 = felt_of v 28;
-  mul = felt_of v 29;
-  res = felt_of v 30;
-  t0 = felt_of v 31;
-  t1 = felt_of v 32;
+  off_dst = value_at v 20;
+  off_op0 = value_at v 21;
+  off_op1 = value_at v 22;
+  dst_addr = value_at v 23;
+  op0_addr = value_at v 24;
+  op1_addr = value_at v 25;
+  dst = value_at v 26;
+  op0 = value_at v 27;
+  op1 = value_at v 28;
+  mul = value_at v 29;
+  res = value_at v 30;
+  t0 = value_at v 31;
+  t1 = value_at v 32;
 }
 
--- The state pc, ap, fp; the range row of a value and its limbs; the pair of an address and a value. Own.
-unfoldable pub state_of : List Felt → State
-state_of v = record { pc = felt_of v 0; ap = felt_of v 1; fp = felt_of v 2 }
+-- The state of three values: pc, ap and fp. Own.
+unfoldable pub state_of_values : List Felt → State
+state_of_values v = record { pc = value_at v 0; ap = value_at v 1; fp = value_at v 2 }
 
-unfoldable pub range_row_of : List Felt → RangeRow
-range_row_of v = record { value = felt_of v 0; l0 = felt_of v 1; l1 = felt_of v 2; l2 = felt_of v 3 }
+-- The range row of four values: the value and its three limbs. Own.
+unfoldable pub range_row_of_values : List Felt → RangeRow
+range_row_of_values v = record { value = value_at v 0; l0 = value_at v 1; l1 = value_at v 2; l2 = value_at v 3 }
 
-unfoldable pub pair_of : List Felt → Pair
-pair_of v = record { addr = felt_of v 0; value = felt_of v 1 }
+-- The pair of two values: the address and the value. Own.
+unfoldable pub pair_of_values : List Felt → Pair
+pair_of_values v = record { addr = value_at v 0; value = value_at v 1 }
 
--- The row of 264 bytes, the state of 24, the range row of 32, the pair of 16. Own.
-unfoldable pub row_in : List ℕ → Row
-row_in bytes = row_of (felts_in 33 bytes)
+-- The row of 264 bytes. Own.
+unfoldable pub row_of_bytes : List ℕ → Row
+row_of_bytes bytes = row_of_values (values_of_bytes 33 bytes)
 
-unfoldable pub state_in : List ℕ → State
-state_in bytes = state_of (felts_in 3 bytes)
+-- The state of 24 bytes. Own.
+unfoldable pub state_of_bytes : List ℕ → State
+state_of_bytes bytes = state_of_values (values_of_bytes 3 bytes)
 
-unfoldable pub range_row_in : List ℕ → RangeRow
-range_row_in bytes = range_row_of (felts_in 4 bytes)
+-- The range row of 32 bytes. Own.
+unfoldable pub range_row_of_bytes : List ℕ → RangeRow
+range_row_of_bytes bytes = range_row_of_values (values_of_bytes 4 bytes)
 
-unfoldable pub pair_in : List ℕ → Pair
-pair_in bytes = pair_of (felts_in 2 bytes)
+-- The pair of 16 bytes. Own.
+unfoldable pub pair_of_bytes : List ℕ → Pair
+pair_of_bytes bytes = pair_of_values (values_of_bytes 2 bytes)
 
 -- The tables of these counts that begin with the bytes, one list after another. Own.
 unfoldable pub lists_in : (rows range fillers pairs range_fillers : ℕ) → List ℕ → Contents
@@ -90,13 +94,13 @@ lists_in rows range fillers pairs range_fillers bytes =
     let after_pairs = drop (16 * pairs) after_fillers in
     let after_range_fillers = drop (8 * range_fillers) after_pairs in
     record {
-      rows = items_in 264 row_in rows bytes;
-      last = state_in (take 24 after_rows);
-      range = items_in 32 range_row_in range after_last;
-      fillers = items_in 16 pair_in fillers after_range;
-      pairs = items_in 16 pair_in pairs after_fillers;
-      range_fillers = items_in 8 felt_in range_fillers after_pairs;
-      sorted_range = items_in 8 felt_in (3 * rows + 3 * range + range_fillers) after_range_fillers;
+      rows = items_in 264 row_of_bytes rows bytes;
+      last = state_of_bytes (take 24 after_rows);
+      range = items_in 32 range_row_of_bytes range after_last;
+      fillers = items_in 16 pair_of_bytes fillers after_range;
+      pairs = items_in 16 pair_of_bytes pairs after_fillers;
+      range_fillers = items_in 8 value_of_bytes range_fillers after_pairs;
+      sorted_range = items_in 8 value_of_bytes (3 * rows + 3 * range + range_fillers) after_range_fillers;
     }
 
 -- The only tables that bytes can spell: the lists behind the counts, as long as the counts say. Own.

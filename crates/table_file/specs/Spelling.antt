@@ -17,16 +17,19 @@ magic = codes "CAIROGT1"
 abbrev pub counts : Contents → List ℕ
 counts t = length t.rows ∷ length t.range ∷ length t.fillers ∷ length t.pairs ∷ length t.range_fillers ∷ []
 
--- The values of a row, in the order of its columns; of a state; of a range row; of a pair. Own.
+-- The values of a row, in the order of its columns. Own.
 abbrev pub row_values : Row → List ℕ
 row_values r = values (columns r)
 
+-- The values of a state: pc, ap and fp. Own.
 abbrev pub state_values : State → List ℕ
 state_values s = s.pc.number ∷ s.ap.number ∷ s.fp.number ∷ []
 
+-- The values of a range row: the value and its three limbs. Own.
 abbrev pub range_row_values : RangeRow → List ℕ
 range_row_values r = r.value.number ∷ r.l0.number ∷ r.l1.number ∷ r.l2.number ∷ []
 
+-- The values of a pair: the address and the value. Own.
 abbrev pub pair_values : Pair → List ℕ
 pair_values p = p.addr.number ∷ p.value.number ∷ []
 
@@ -48,7 +51,7 @@ spelling t = magic ++ (numbers_bytes (counts t) ++ numbers_bytes (all_values t))
 
 -- The bytes spell these tables: they are those of the tables, and nothing follows. The tables are within the limits of a
 -- file, and each row has its sixteen values of tilde, as the code's rows do. Own.
-pub record Spells (bytes : List ℕ) (t : Contents) : Type 0 where
+pub record SpellsTables (bytes : List ℕ) (t : Contents) : Type 0 where
   pub parts : bytes ≡ spelling t
   pub valid : AreValid t
   pub sixteen : All (λ r. length r.tilde ≡ 16) t.rows

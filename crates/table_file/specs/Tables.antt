@@ -4,6 +4,7 @@ use Rattle.goldilocks.specs.declared.Felt.{Felt}
 use Rattle.goldilocks.specs.declared.Pair.{Pair}
 use Rattle.casm_word.specs.declared.State.{State}
 use Rattle.cpu_rows.specs.declared.Row.{Row}
+use Rattle.memory_columns.specs.Filling.{most_fillers}
 use Rattle.range_columns.specs.declared.RangeRow.{RangeRow}
 use Rattle.table_file.specs.declared.Tables.{Tables}
 
@@ -30,24 +31,24 @@ contents t = record {
   sorted_range = t.small.sorted.items;
 }
 
--- The most rows, range rows, memory fillers, sorted pairs and range fillers. Own.
+-- The most rows. Own.
 abbrev pub most_rows : ℕ
 most_rows = 2 ^ 20
 
+-- The most range rows. Own.
 abbrev pub most_range_rows : ℕ
 most_range_rows = 2 ^ 18
 
-abbrev pub most_fillers : ℕ
-most_fillers = 2 ^ 21
-
+-- The most sorted pairs. Own.
 abbrev pub most_pairs : ℕ
 most_pairs = 7077888
 
+-- The most range fillers. Own.
 abbrev pub most_range_fillers : ℕ
 most_range_fillers = 65536
 
--- Tables that a file may hold: no list is above its limit, and there is a sorted range value for each offset of a row,
--- for each limb of a range row and for each range filler. Own.
+-- Tables that a file may hold: no list is above its limit. There is a sorted range value for each offset of a row, for
+-- each limb of a range row and for each range filler. Own.
 pub record AreValid (t : Contents) : Type 0 where
   pub row_count : length t.rows ≤ most_rows
   pub range_row_count : length t.range ≤ most_range_rows

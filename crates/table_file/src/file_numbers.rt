@@ -2,7 +2,7 @@
 
 ghost use Rattle.std.specs.Prelude.{◌≡◌, ◌+◌, ◌≤◌, length};
 ghost use Rattle.std.specs.Int.{from_le_bytes, w64};
-ghost use Rattle.table_file.specs.FileNumbers.{number_at};
+ghost use Rattle.goldilocks.specs.FileNumbers.{number_at};
 
 /// The number of eight bytes.
 pub(crate) fn number_of(bytes: &[u8]) -> u64

@@ -3,10 +3,11 @@
 ghost use Rattle.std.specs.Prelude.{◌≡◌, ◌+◌, ◌*◌, ◌≤◌, ◌++◌, ℕ, List, All, IfOk, OnOk, ⊤, length, take};
 ghost use Rattle.std.specs.List.{flat_map};
 ghost use Rattle.goldilocks.specs.declared.Felt.{Felt};
+ghost use Rattle.goldilocks.specs.FileNumbers.{number_bytes};
 ghost use Rattle.cpu_rows.specs.Columns.{numbers};
-ghost use Rattle.table_file.specs.FileNumbers.{number_bytes, numbers_bytes};
+ghost use Rattle.table_file.specs.FileNumbers.{numbers_bytes};
 ghost use Rattle.table_file.specs.Spelling.{row_values, state_values, range_row_values, pair_values};
-ghost use Rattle.table_file.specs.Reading.{items_in, felts_in, felt_in, row_in, state_in, range_row_in, pair_in};
+ghost use Rattle.table_file.specs.Reading.{items_in, values_of_bytes, value_of_bytes, row_of_bytes, state_of_bytes, range_row_of_bytes, pair_of_bytes};
 
 use crate::file_numbers::number_of;
 use casm_word::State;
@@ -72,7 +73,7 @@ pub(crate) fn write_items<T: Item>(out: &mut Vec<u8>, items: &[T]) -> Result<(),
 /// The values of the bytes.
 fn read_values<const N: usize>(bytes: &[u8]) -> [Felt; N]
     requires { length bytes.now ≡ 8 * N }
-    ensures { result ≡ felts_in N bytes.now }
+    ensures { result ≡ values_of_bytes N bytes.now }
 {
     let mut values = [Felt::ZERO; N];
     let mut rest = bytes;
@@ -94,11 +95,11 @@ fn write_values(out: &mut Vec<u8>, values: &[Felt]) -> Result<(), AllocError>
     Ok(())
 }
 
-#[tactic(auto, unfolding(crate::specs::Reading::felt_in))]
+#[tactic(auto, unfolding(crate::specs::Reading::value_of_bytes))]
 impl Item for Felt {
     ghost SIZE = { 8 };
 
-    ghost item_in = { felt_in };
+    ghost item_in = { value_of_bytes };
 
     ghost spelled = { λ x. number_bytes x.number };
 
@@ -115,11 +116,11 @@ impl Item for Felt {
     }
 }
 
-#[tactic(auto, unfolding(crate::specs::Reading::row_in))]
+#[tactic(auto, unfolding(crate::specs::Reading::row_of_bytes))]
 impl Item for Row {
     ghost SIZE = { 264 };
 
-    ghost item_in = { row_in };
+    ghost item_in = { row_of_bytes };
 
     ghost spelled = { λ r. numbers_bytes (row_values r) };
 
@@ -136,11 +137,11 @@ impl Item for Row {
     }
 }
 
-#[tactic(auto, unfolding(crate::specs::Reading::state_in, crate::specs::Reading::state_of))]
+#[tactic(auto, unfolding(crate::specs::Reading::state_of_bytes, crate::specs::Reading::state_of_values))]
 impl Item for State {
     ghost SIZE = { 24 };
 
-    ghost item_in = { state_in };
+    ghost item_in = { state_of_bytes };
 
     ghost spelled = { λ s. numbers_bytes (state_values s) };
 
@@ -158,11 +159,11 @@ impl Item for State {
     }
 }
 
-#[tactic(auto, unfolding(crate::specs::Reading::range_row_in, crate::specs::Reading::range_row_of))]
+#[tactic(auto, unfolding(crate::specs::Reading::range_row_of_bytes, crate::specs::Reading::range_row_of_values))]
 impl Item for RangeRow {
     ghost SIZE = { 32 };
 
-    ghost item_in = { range_row_in };
+    ghost item_in = { range_row_of_bytes };
 
     ghost spelled = { λ r. numbers_bytes (range_row_values r) };
 
@@ -180,11 +181,11 @@ impl Item for RangeRow {
     }
 }
 
-#[tactic(auto, unfolding(crate::specs::Reading::pair_in, crate::specs::Reading::pair_of))]
+#[tactic(auto, unfolding(crate::specs::Reading::pair_of_bytes, crate::specs::Reading::pair_of_values))]
 impl Item for Pair {
     ghost SIZE = { 16 };
 
-    ghost item_in = { pair_in };
+    ghost item_in = { pair_of_bytes };
 
     ghost spelled = { λ p. numbers_bytes (pair_values p) };
 

@@ -3,16 +3,16 @@
 ghost use Rattle.std.specs.Prelude.{◌≡◌, ◌<◌, ◌↔◌, ℕ, List, All, Ok, Err, length};
 ghost use Rattle.table_file.specs.Tables.{Contents, AreValid};
 ghost use Rattle.table_file.specs.declared.TableFault.{TableFault};
-ghost use Rattle.table_file.specs.Spelling.{spelling, Spells};
+ghost use Rattle.table_file.specs.Spelling.{spelling, SpellsTables};
 ghost use Rattle.table_file.specs.Faults.{HasFault, IsFirstFault};
 ghost use Rattle.table_file.specs.Reading.{reading};
 
 /// Bytes spell one tables at most, and have then no fault. Valid tables are spelled by their spelling. Of faults one at
 /// most comes first.
 pub fn spelling_laws()
-    ensures once { (bytes : List ℕ) (t u : Contents) → Spells bytes t → Spells bytes u → t ≡ u }
-    ensures no_fault { (bytes : List ℕ) (t : Contents) → Spells bytes t → (place : ℕ) (f : TableFault) → HasFault bytes place f → ⊥ }
-    ensures spelled { (t : Contents) → AreValid t → All (λ r. length r.tilde ≡ 16) t.rows → Spells (spelling t) t }
+    ensures once { (bytes : List ℕ) (t u : Contents) → SpellsTables bytes t → SpellsTables bytes u → t ≡ u }
+    ensures no_fault { (bytes : List ℕ) (t : Contents) → SpellsTables bytes t → (place : ℕ) (f : TableFault) → HasFault bytes place f → ⊥ }
+    ensures spelled { (t : Contents) → AreValid t → All (λ r. length r.tilde ≡ 16) t.rows → SpellsTables (spelling t) t }
     ensures one_first { (bytes : List ℕ) (f g : TableFault) → IsFirstFault bytes f → IsFirstFault bytes g → f ≡ g }
 {}
 
@@ -20,6 +20,6 @@ pub fn spelling_laws()
 /// bytes that spell no tables have a first fault. Lists of numbers stand for bytes here: the first law is of those whose
 /// numbers are below 256, as all bytes are.
 pub fn reading_laws()
-    ensures tables { (bytes : List ℕ) (t : Contents) → All (λ b. b < 256) bytes → (reading bytes ≡ Ok t) ↔ Spells bytes t }
+    ensures tables { (bytes : List ℕ) (t : Contents) → All (λ b. b < 256) bytes → (reading bytes ≡ Ok t) ↔ SpellsTables bytes t }
     ensures fault { (bytes : List ℕ) (f : TableFault) → (reading bytes ≡ Err f) ↔ IsFirstFault bytes f }
 {}

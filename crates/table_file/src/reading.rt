@@ -2,7 +2,7 @@
 
 ghost use Rattle.std.specs.Prelude.{◌≡◌, ◌⊎◌, ◌≤◌, ◌*◌, MatchOption, MatchResult, IfOk, IfErr, length};
 ghost use Rattle.table_file.specs.Tables.{contents, AreValid, Contents};
-ghost use Rattle.table_file.specs.Spelling.{Spells};
+ghost use Rattle.table_file.specs.Spelling.{SpellsTables};
 ghost use Rattle.table_file.specs.Faults.{IsFirstFault};
 ghost use Rattle.table_file.specs.Reading.{lists_in, reading};
 ghost use Rattle.table_file.specs.Parts.{HasLowValues, IsFirstHighValue, IsWholeFile, values_by};
@@ -23,14 +23,14 @@ use std::alloc::{AllocError, Global};
 ///
 /// Memory is taken only for bytes that spell tables, and once for each list. Want of memory has no cause in the bytes.
 pub fn read(alloc: Global, bytes: &[u8]) -> Result<Tables, TableFault>
-    ensures spells { IfOk result (λ t. Spells bytes.now (contents t)) }
+    ensures spells { IfOk result (λ t. SpellsTables bytes.now (contents t)) }
     ensures valid { IfOk result (λ t. AreValid (contents t)) }
-    ensures only { IfOk result (λ t. (other : Contents) → Spells bytes.now other → other ≡ contents t) }
+    ensures only { IfOk result (λ t. (other : Contents) → SpellsTables bytes.now other → other ≡ contents t) }
 
     // Of several faults the first from the front is told, and bytes that spell tables have none.
     ensures fault { IfErr result (λ fault. (fault ≡ Memory) ⊎ IsFirstFault bytes.now fault) }
     ensures reading { MatchResult result (λ t. reading bytes.now ≡ Ok (contents t)) (λ fault. (fault ≡ Memory) ⊎ (reading bytes.now ≡ Err fault)) }
-    ensures exact { IfErr result (λ fault. (t : Contents) → Spells bytes.now t → fault ≡ Memory) }
+    ensures exact { IfErr result (λ fault. (t : Contents) → SpellsTables bytes.now t → fault ≡ Memory) }
 {
     let counts = match check(bytes) {
         Ok(counts) => counts,

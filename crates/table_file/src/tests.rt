@@ -518,13 +518,14 @@ fn files_are_read_and_written_back(rt: HostRuntime) -> Result<(), Fail> {
     for (numbers, counts) in cases {
         let bytes = file(rt.alloc(), numbers)?;
         let tables = read(rt.alloc(), &bytes)?;
-        assert_eq!(rt; lengths(&tables), counts);
+        assert_eq!(rt; lengths(&tables), counts, "{counts:?}: the lengths");
         assert_eq!(rt;
             values_of(rt.alloc(), &tables)?.as_slice(),
-            numbers.get(5..).unwrap_or(&[])
+            numbers.get(5..).unwrap_or(&[]),
+            "{counts:?}: the values"
         );
         let back = write(rt.alloc(), &tables)?;
-        assert_eq!(rt; back.as_slice(), bytes.as_slice());
+        assert_eq!(rt; back.as_slice(), bytes.as_slice(), "{counts:?}: the bytes");
     }
     Ok(())
 }
@@ -538,7 +539,7 @@ fn faults_are_printed(rt: HostRuntime) -> Result<(), Fail> {
         (TableFault::Length, "Length"),
     ] {
         let printed = fault.to_string(rt.alloc())?;
-        assert_eq!(rt; printed.as_str(), text);
+        assert_eq!(rt; printed.as_str(), text, "{fault:?}: the text");
     }
     Ok(())
 }

@@ -3,20 +3,20 @@
 ghost use Rattle.std.specs.Prelude.{◌≡◌, ◌++◌, All, IfOk, OnOk, length};
 ghost use Rattle.table_file.specs.Tables.{contents, AreValid};
 ghost use Rattle.table_file.specs.FileNumbers.{numbers_bytes};
-ghost use Rattle.table_file.specs.Spelling.{all_values, spelling, Spells};
+ghost use Rattle.table_file.specs.Spelling.{all_values, spelling, SpellsTables};
 
 use crate::Tables;
 use crate::head::{Counts, MAGIC};
 use crate::items::{Item, write_items};
 use std::alloc::{AllocError, Global};
 
-/// The bytes of the tables' file, the only ones that spell these tables. Memory is taken once.
+/// The bytes of the tables' file, the only ones that spell these tables. The tables are valid. Memory is taken once.
 pub fn write(alloc: Global, tables: &Tables) -> Result<Vec<u8>, AllocError>
     requires { AreValid (contents tables.now) }
     ensures bytes { IfOk result (λ bytes. bytes.items ≡ spelling (contents tables.now)) }
 
     // So `read` gives the tables back.
-    ensures spells { IfOk result (λ bytes. Spells bytes.items (contents tables.now)) }
+    ensures spells { IfOk result (λ bytes. SpellsTables bytes.items (contents tables.now)) }
 {
     let counts = Counts::of(tables);
     let mut out = Vec::with_capacity(alloc, counts.file_len())?;

@@ -10,7 +10,8 @@ use Rattle.std.proofs.lemmas.List.Elements.{All-from_recursion}
 use Rattle.std.specs.Int.{w64, from_le_bytes}
 use Rattle.std.specs.List.{flat_map, AllByRecursion}
 use Rattle.goldilocks.specs.Field.{prime}
-use Rattle.trace_files.specs.FileNumbers.{number_bytes, number_at, IsNumberAt, AreNumbersBefore, IsFirstNotField, is_number_at, first_failing, first_not_field}
+use Rattle.goldilocks.specs.FileNumbers.{number_bytes, number_at}
+use Rattle.trace_files.specs.FileNumbers.{IsNumberAt, AreNumbersBefore, IsFirstNotField, is_number_at, first_failing_place, first_not_field}
 use Rattle.trace_files.proofs.Places.{FindsFirst, found, none_found, first_found}
 use Rattle.trace_files.proofs.Items.{item_there, length-spelled}
 
@@ -75,7 +76,7 @@ numbers_stand numbers fit = λ place lower multiple.
 
 -- what is found is the place of the first number that is none of the field
 finds_number : (bytes : List ℕ) → FindsFirst (is_number_at bytes) (λ i. 8 * i) 0 (length bytes / 8) (first_not_field bytes)
-unfolding first_failing
+unfolding first_failing_place
 finds_number bytes = found (is_number_at bytes) (λ i. 8 * i) 0 (length bytes / 8)
 
 module _ (bytes : List ℕ) (whole : length bytes % 8 ≡ 0) where

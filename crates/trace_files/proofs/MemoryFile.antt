@@ -10,10 +10,11 @@ use Rattle.std.specs.List.{flat_map, range_with_len, slice_index, slice_get, All
 use Rattle.std.specs.List.Sorted.{IsStrictlyIncreasing}
 use Rattle.goldilocks.specs.Field.{prime}
 use Rattle.goldilocks.specs.declared.Pair.{Pair}
+use Rattle.goldilocks.specs.FileNumbers.{number_bytes, number_at}
 use Rattle.trace_files.specs.declared.fault.FileFault.{FileFault}
 use Rattle.trace_files.specs.declared.fault.FileFault.TheVariants.{TooMany, Length, NotField, Order, Memory}
-use Rattle.trace_files.specs.FileNumbers.{number_bytes, number_at, AreNumbersBefore, IsFirstNotField, first_failing, first_not_field}
-use Rattle.trace_files.specs.MemoryFile.{memory_limit, Cell, as_cell, as_cells, cell_bytes, memory_bytes, most_cells, cell_at, IsCell, addresses, cells_in, SpellsMemory, AscendsBefore, IsFirstDisorder, entry_of, HasMemoryLength, IsMemoryFault, ascends_at, first_disorder, cells_unless, memory_reading}
+use Rattle.trace_files.specs.FileNumbers.{AreNumbersBefore, IsFirstNotField, first_failing_place, first_not_field}
+use Rattle.trace_files.specs.MemoryFile.{memory_limit, Cell, as_cell, as_cells, cell_bytes, memory_bytes, most_cells, cell_at, IsCell, cell_addresses, cells_in, SpellsMemory, AscendsBefore, IsFirstDisorder, entry_of, HasMemoryLength, IsMemoryFault, ascends_at, first_disorder, cells_unless, memory_reading}
 use Rattle.trace_files.specs.Parts.{IsNumberFault, LastBelow}
 use Rattle.trace_files.proofs.Places.{FindsFirst, found, none_found, first_found}
 use Rattle.trace_files.proofs.Items.{IsLayout, length-spelled, spelled_back, found_again, AllByRecursion-map_range}
@@ -76,17 +77,17 @@ length-cells_in bytes = length-map-range_with_len (cell_at bytes) 0 (length byte
 
 -- ---- the addresses
 
-length-addresses_at : (bytes : List ℕ) (n : ℕ) → length (addresses (map (cell_at bytes) (range_with_len 0 n))) ≡ n
+length-addresses_at : (bytes : List ℕ) (n : ℕ) → length (cell_addresses (map (cell_at bytes) (range_with_len 0 n))) ≡ n
 length-addresses_at bytes n = simp (length-map, length-range_with_len) refl
 
 -- the addresses at their places
-address_at : (bytes : List ℕ) (n j : ℕ) → j < n → slice_index (addresses (map (cell_at bytes) (range_with_len 0 n))) j ≡ number_at bytes (16 * j)
+address_at : (bytes : List ℕ) (n j : ℕ) → j < n → slice_index (cell_addresses (map (cell_at bytes) (range_with_len 0 n))) j ≡ number_at bytes (16 * j)
 unfolding cell_at
 address_at bytes n j within =
     rw map-map (get_or-map-range_with_len (λ i. number_at bytes (16 * i)) 0 n j j 0 within (zero-add j))
 
 -- addresses that rise at their places, and the same of the list of them
-ascending_listed : (bytes : List ℕ) (n : ℕ) → AscendsBefore bytes (16 * n) → IsStrictlyIncreasing (addresses (map (cell_at bytes) (range_with_len 0 n)))
+ascending_listed : (bytes : List ℕ) (n : ℕ) → AscendsBefore bytes (16 * n) → IsStrictlyIncreasing (cell_addresses (map (cell_at bytes) (range_with_len 0 n)))
 ascending_listed bytes n ascends = λ k within.
     let size = length-addresses_at bytes n in
     let here = address_at bytes n k (omega arith) in
@@ -96,7 +97,7 @@ ascending_listed bytes n ascends = λ k within.
     let same = ap (λ p. number_at bytes p) before in
     omega (arith, here, behind, rises, same)
 
-ascending_placed : (bytes : List ℕ) (n : ℕ) → IsStrictlyIncreasing (addresses (map (cell_at bytes) (range_with_len 0 n))) → AscendsBefore bytes (16 * n)
+ascending_placed : (bytes : List ℕ) (n : ℕ) → IsStrictlyIncreasing (cell_addresses (map (cell_at bytes) (range_with_len 0 n))) → AscendsBefore bytes (16 * n)
 ascending_placed bytes n rises = λ place second within entry.
     let k : ℕ = place / 16 - 1 in
     let at : 16 * (k + 1) ≡ place = omega arith in
@@ -147,7 +148,7 @@ ascends_of_spelled : (bytes : List ℕ) (cells : List Cell) → SpellsMemory byt
 unfolding cells_in
 ascends_of_spelled bytes cells spells =
     let end : 16 * (length bytes / 16) ≡ length bytes = omega (arith, length-spelled_memory bytes cells spells) in
-    let rises = subst (λ cs. IsStrictlyIncreasing (addresses cs)) (sym (cells_in-spelled bytes cells spells)) spells.ascending in
+    let rises = subst (λ cs. IsStrictlyIncreasing (cell_addresses cs)) (sym (cells_in-spelled bytes cells spells)) spells.ascending in
     subst (AscendsBefore bytes) end (ascending_placed bytes (length bytes / 16) rises)
 
 -- ---- the first address out of order
@@ -183,7 +184,7 @@ unfolding ascends_at
 test-from_disorder bytes p second not_above = or_from _ _ (le-ltb p 16 second) (le-ltb _ _ not_above)
 
 finds_disorder : (bytes : List ℕ) → FindsFirst (ascends_at bytes) (λ i. 16 * i) 0 (length bytes / 16) (first_disorder bytes)
-unfolding first_failing
+unfolding first_failing_place
 finds_disorder bytes = found (ascends_at bytes) (λ i. 16 * i) 0 (length bytes / 16)
 
 module _ (bytes : List ℕ) (whole : length bytes % 16 ≡ 0) where
@@ -366,40 +367,40 @@ ascends_more bytes i ascends here = λ place second within entry.
 
 -- the last address that was read, in the code's list and at its place
 module _ (bytes : List ℕ) (i : ℕ) (xs ys : List Pair) (pair : Pair) (same : ys ≡ xs) (read : as_cells xs ≡ map (cell_at bytes) (range_with_len 0 i)) (here : as_cell pair ≡ cell_at bytes i) where
-  same_addresses : addresses (as_cells ys) ≡ addresses (map (cell_at bytes) (range_with_len 0 i))
-  same_addresses = ap (λ list. addresses (as_cells list)) same ∙ ap addresses read
+  same_addresses : cell_addresses (as_cells ys) ≡ cell_addresses (map (cell_at bytes) (range_with_len 0 i))
+  same_addresses = ap (λ list. cell_addresses (as_cells list)) same ∙ ap cell_addresses read
 
   same_address : pair.addr.number ≡ number_at bytes (16 * i)
   unfolding cell_at
   same_address = ap (λ (c : Cell). c.addr) here
 
-  last_address : 1 ≤ i → slice_index (addresses (as_cells ys)) (i - 1) ≡ number_at bytes (16 * i - 16)
+  last_address : 1 ≤ i → slice_index (cell_addresses (as_cells ys)) (i - 1) ≡ number_at bytes (16 * i - 16)
   last_address one =
       let place : 16 * (i - 1) ≡ 16 * i - 16 = omega arith in
       ap (λ numbers. slice_index numbers (i - 1)) same_addresses ∙ address_at bytes i (i - 1) (omega arith) ∙ ap (λ p. number_at bytes p) place
 
-  pub AscendsAt-from_last : LastBelow (addresses (as_cells ys)) pair.addr.number → AscendsAt bytes (16 * i)
+  pub AscendsAt-from_last : LastBelow (cell_addresses (as_cells ys)) pair.addr.number → AscendsAt bytes (16 * i)
   AscendsAt-from_last below = λ second.
-      let size : length (addresses (as_cells ys)) ≡ i = ap length same_addresses ∙ length-addresses_at bytes i in
+      let size : length (cell_addresses (as_cells ys)) ≡ i = ap length same_addresses ∙ length-addresses_at bytes i in
       omega (arith, below (i - 1) (omega arith), last_address (omega arith), same_address)
 
-  pub LastBelow-from_ascends : AscendsAt bytes (16 * i) → LastBelow (addresses (as_cells ys)) pair.addr.number
+  pub LastBelow-from_ascends : AscendsAt bytes (16 * i) → LastBelow (cell_addresses (as_cells ys)) pair.addr.number
   LastBelow-from_ascends ascends = λ k at.
-      let size : length (addresses (as_cells ys)) ≡ i = ap length same_addresses ∙ length-addresses_at bytes i in
+      let size : length (cell_addresses (as_cells ys)) ≡ i = ap length same_addresses ∙ length-addresses_at bytes i in
       let last : k ≡ i - 1 = omega arith in
       rw last (omega (arith, ascends (omega arith), last_address (omega arith), same_address))
 
 -- the address of a pair in the list
-pub address_of_pair : (pairs : List Pair) (k : ℕ) (pair : Pair) → slice_get pairs k ≡ Some pair → slice_index (addresses (as_cells pairs)) k ≡ pair.addr.number
+pub address_of_pair : (pairs : List Pair) (k : ℕ) (pair : Pair) → slice_get pairs k ≡ Some pair → slice_index (cell_addresses (as_cells pairs)) k ≡ pair.addr.number
 address_of_pair pairs k pair held =
-    get_or_from_slice_get (addresses (as_cells pairs)) k pair.addr.number 0
+    get_or_from_slice_get (cell_addresses (as_cells pairs)) k pair.addr.number 0
     (slice_get-map (λ c. c.addr) (as_cells pairs) k ∙ ap (λ o. option_map (λ c. c.addr) o) (slice_get-map as_cell pairs k ∙ ap (λ o. option_map as_cell o) held))
 
-pub length-addresses : (pairs : List Pair) → length (addresses (as_cells pairs)) ≡ length pairs
+pub length-addresses : (pairs : List Pair) → length (cell_addresses (as_cells pairs)) ≡ length pairs
 length-addresses pairs = simp (length-map) refl
 
 -- what the last pair says of the addresses
-pub LastBelow-last : (pairs : List Pair) (last : Pair) (x : ℕ) → Some last ≡ slice_get pairs (length pairs - 1) → (last.addr.number < x) ↔ LastBelow (addresses (as_cells pairs)) x
+pub LastBelow-last : (pairs : List Pair) (last : Pair) (x : ℕ) → Some last ≡ slice_get pairs (length pairs - 1) → (last.addr.number < x) ↔ LastBelow (cell_addresses (as_cells pairs)) x
 LastBelow-last pairs last x held =
     let within : length pairs - 1 < length pairs = slice_get_within pairs (length pairs - 1) last (sym held) in
     let size = length-addresses pairs in
@@ -416,7 +417,7 @@ pairs_fit [] = tt
 pairs_fit (x ∷ rest) = (record { addr = x.addr.in_field; value = x.value.in_field }, pairs_fit rest)
 
 -- written cells are spelled
-pub SpellsMemory-written : (cells : List Cell) → length cells ≤ most_cells → AllByRecursion IsCell cells → IsStrictlyIncreasing (addresses cells) → SpellsMemory (memory_bytes cells) cells
+pub SpellsMemory-written : (cells : List Cell) → length cells ≤ most_cells → AllByRecursion IsCell cells → IsStrictlyIncreasing (cell_addresses cells) → SpellsMemory (memory_bytes cells) cells
 SpellsMemory-written cells most fit rises = record { parts = refl; most = most; numbers = fit; ascending = rises }
 
 -- the first cells of the bytes were read
@@ -434,7 +435,7 @@ SpellsMemory-from_all_read bytes i pairs size has all =
     subst (SpellsMemory bytes) (sym same) (SpellsMemory-from_numbers bytes size (subst (AreNumbersBefore bytes) end has.numbers) (subst (AscendsBefore bytes) end has.ascending))
 
 -- all cells were written
-pub SpellsMemory-from_all_written : (pairs : List Pair) (bytes : List ℕ) (i : ℕ) → bytes ≡ memory_bytes (as_cells (take i pairs)) → length pairs ≤ i → length pairs ≤ most_cells → IsStrictlyIncreasing (addresses (as_cells pairs)) → SpellsMemory bytes (as_cells pairs)
+pub SpellsMemory-from_all_written : (pairs : List Pair) (bytes : List ℕ) (i : ℕ) → bytes ≡ memory_bytes (as_cells (take i pairs)) → length pairs ≤ i → length pairs ≤ most_cells → IsStrictlyIncreasing (cell_addresses (as_cells pairs)) → SpellsMemory bytes (as_cells pairs)
 SpellsMemory-from_all_written pairs bytes i written all most rises =
     let size : length (as_cells pairs) ≡ length pairs = simp (length-map) refl in
     let whole : memory_bytes (as_cells pairs) ≡ bytes = sym (written ∙ ap (λ taken. memory_bytes (as_cells taken)) (take_all i pairs all)) in

@@ -11,7 +11,7 @@ use Rattle.std.proofs.lemmas.Bool.Decides.{nat_tests}
 use Rattle.std.proofs.lemmas.Option.{slice_get-get_or}
 use Rattle.std.proofs.lemmas.List.Kept.{AllPairs-from_increasing}
 use Rattle.goldilocks.specs.declared.Pair.{Pair}
-use Rattle.trace_files.specs.MemoryFile.{Cell, addresses, as_cell, as_cells, memory_of}
+use Rattle.trace_files.specs.MemoryFile.{Cell, cell_addresses, as_cell, as_cells, memory_of}
 use Rattle.trace_files.proofs.MemoryFile.{address_of_pair, length-addresses}
 
 -- the first of several cells, at its address and at another
@@ -43,14 +43,14 @@ memory_of-present (x ∷ xs) (suc i) d a within here before =
     ∙ memory_of-present xs i d a (omega arith) here (λ j lower. before (suc j) (omega arith))
 
 -- the address of an item
-pub address_of_item : (pairs : List Pair) (i : ℕ) (d : Pair) → i < length pairs → slice_index (addresses (as_cells pairs)) i ≡ (get_or pairs i d).addr.number
+pub address_of_item : (pairs : List Pair) (i : ℕ) (d : Pair) → i < length pairs → slice_index (cell_addresses (as_cells pairs)) i ≡ (get_or pairs i d).addr.number
 address_of_item pairs i d within = address_of_pair pairs i (get_or pairs i d) (slice_get-get_or pairs i d within)
 
-module _ (pairs : List Pair) (rises : IsStrictlyIncreasing (addresses (as_cells pairs))) (a : ℕ) where
+module _ (pairs : List Pair) (rises : IsStrictlyIncreasing (cell_addresses (as_cells pairs))) (a : ℕ) where
   lower_before : (i j : ℕ) (d : Pair) → i < j → j < length pairs → (get_or pairs i d).addr.number < (get_or pairs j d).addr.number
   lower_before i j d before within =
       let size = length-addresses pairs in
-      let lower = AllPairs-from_increasing (addresses (as_cells pairs)) rises i j 0 before (omega arith) in
+      let lower = AllPairs-from_increasing (cell_addresses (as_cells pairs)) rises i j 0 before (omega arith) in
       omega (arith, lower, address_of_item pairs i d (omega arith), address_of_item pairs j d within)
 
   comparisons_rise : IsNonDecreasingBy (λ pair. ordering_index (nat_cmp pair.addr.number a)) pairs

@@ -9,9 +9,10 @@ use Rattle.std.proofs.lemmas.Bool.{and_from, and_parts, ltb-true, ltb-false, lt-
 use Rattle.std.specs.List.{flat_map, range_with_len, AllByRecursion}
 use Rattle.std.proofs.lemmas.List.FromFn.{length-map-range_with_len}
 use Rattle.goldilocks.specs.Field.{prime}
+use Rattle.goldilocks.specs.FileNumbers.{number_bytes, number_at}
 use Rattle.trace_files.specs.declared.fault.FileFault.{FileFault}
 use Rattle.trace_files.specs.declared.fault.FileFault.TheVariants.{TooMany, Length, NotField, Order, Memory}
-use Rattle.trace_files.specs.FileNumbers.{number_bytes, number_at, AreNumbersBefore, IsFirstNotField, first_not_field}
+use Rattle.trace_files.specs.FileNumbers.{AreNumbersBefore, IsFirstNotField, first_not_field}
 use Rattle.trace_files.specs.TraceFile.{trace_limit, state_bytes, state_at, IsState, states_in, trace_bytes, most_states, SpellsTrace, HasTraceLength, IsTraceFault, has_states, states_unless, trace_reading}
 use Rattle.trace_files.specs.Parts.{IsNumberFault}
 use Rattle.trace_files.proofs.Items.{IsLayout, length-spelled, spelled_back, found_again, AllByRecursion-map_range}

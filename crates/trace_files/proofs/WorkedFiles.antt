@@ -2,7 +2,7 @@
 use Rattle.std.proofs.Common.{◌≡◌, ℕ, List, [], ◌∷◌, ◌++◌, take, drop, Ok, Err, refl}
 use Rattle.casm_word.specs.Transition.{Registers}
 use Rattle.trace_files.specs.declared.fault.FileFault.TheVariants.{Length, NotField, Order}
-use Rattle.trace_files.specs.FileNumbers.{is_number_at, first_failing}
+use Rattle.trace_files.specs.FileNumbers.{is_number_at, first_failing_place}
 use Rattle.trace_files.specs.TraceFile.{state_at, states_in, trace_bytes, trace_reading}
 use Rattle.trace_files.specs.MemoryFile.{Cell, cell_at, cells_in, memory_bytes, ascends_at, memory_reading}
 
@@ -45,14 +45,14 @@ worked_cells = cell 1 290341444919459839 ∷ cell 2 0 ∷ cell 3 122624574248252
 
 -- the trace spells its five states, and the memory its fourteen cells
 pub trace_is_read : trace_reading worked_trace ≡ Ok worked_states
-unfolding trace_reading first_failing is_number_at states_in state_at
+unfolding trace_reading first_failing_place is_number_at states_in state_at
 trace_is_read = refl
 
 pub trace_is_written : trace_bytes worked_states ≡ worked_trace
 trace_is_written = refl
 
 pub memory_is_read : memory_reading worked_memory ≡ Ok worked_cells
-unfolding memory_reading first_failing is_number_at ascends_at cells_in cell_at
+unfolding memory_reading first_failing_place is_number_at ascends_at cells_in cell_at
 memory_is_read = refl
 
 pub memory_is_written : memory_bytes worked_cells ≡ worked_memory
@@ -60,20 +60,20 @@ memory_is_written = refl
 
 -- no bytes are no trace, and the empty memory
 pub nothing_is_no_trace : trace_reading [] ≡ Err Length
-unfolding trace_reading first_failing is_number_at states_in
+unfolding trace_reading first_failing_place is_number_at states_in
 nothing_is_no_trace = refl
 
 pub nothing_is_a_memory : memory_reading [] ≡ Ok []
-unfolding memory_reading first_failing is_number_at ascends_at cells_in
+unfolding memory_reading first_failing_place is_number_at ascends_at cells_in
 nothing_is_a_memory = refl
 
 -- a byte less is no whole state, and one state is no step
 pub a_cut_trace : trace_reading (take 119 worked_trace) ≡ Err Length
-unfolding trace_reading first_failing is_number_at states_in
+unfolding trace_reading first_failing_place is_number_at states_in
 a_cut_trace = refl
 
 pub one_state : trace_reading (take 24 worked_trace) ≡ Err Length
-unfolding trace_reading first_failing is_number_at states_in
+unfolding trace_reading first_failing_place is_number_at states_in
 one_state = refl
 
 -- p as it stands in a file
@@ -82,14 +82,14 @@ order_of_field = 1 ∷ 0 ∷ 0 ∷ 0 ∷ 255 ∷ 255 ∷ 255 ∷ 255 ∷ []
 
 -- the first number of p or more is told by its place, and before an address out of order in the same entry
 pub p_in_a_trace : trace_reading (take 32 worked_trace ++ order_of_field ++ drop 40 worked_trace) ≡ Err (NotField 32)
-unfolding trace_reading first_failing is_number_at states_in
+unfolding trace_reading first_failing_place is_number_at states_in
 p_in_a_trace = refl
 
 pub p_as_a_value : memory_reading (drop 16 (take 32 worked_memory) ++ take 8 worked_memory ++ order_of_field) ≡ Err (NotField 24)
-unfolding memory_reading first_failing is_number_at ascends_at cells_in
+unfolding memory_reading first_failing_place is_number_at ascends_at cells_in
 p_as_a_value = refl
 
 -- the addresses 2, 1, and behind them a value of p
 pub addresses_fall : memory_reading (drop 16 (take 32 worked_memory) ++ take 16 worked_memory ++ take 8 worked_memory ++ order_of_field) ≡ Err (Order 16)
-unfolding memory_reading first_failing is_number_at ascends_at cells_in
+unfolding memory_reading first_failing_place is_number_at ascends_at cells_in
 addresses_fall = refl

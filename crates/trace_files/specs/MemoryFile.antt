@@ -4,10 +4,11 @@ use Rattle.std.specs.List.{flat_map, range_with_len, AllByRecursion, find}
 use Rattle.std.specs.List.Sorted.{IsStrictlyIncreasing}
 use Rattle.goldilocks.specs.Field.{prime}
 use Rattle.goldilocks.specs.declared.Pair.{Pair}
+use Rattle.goldilocks.specs.FileNumbers.{number_bytes, number_at}
 use Rattle.casm_word.specs.Transition.{Memory}
 use Rattle.trace_files.specs.declared.fault.FileFault.{FileFault}
 use Rattle.trace_files.specs.declared.fault.FileFault.TheVariants.{TooMany, Length, NotField, Order, Memory as NoMemory}
-use Rattle.trace_files.specs.FileNumbers.{number_bytes, number_at, AreNumbersBefore, IsFirstNotField, first_failing, first_not_field}
+use Rattle.trace_files.specs.FileNumbers.{AreNumbersBefore, IsFirstNotField, first_failing_place, first_not_field}
 
 -- The most cells that a memory file may have. Own.
 abbrev pub most_cells : ℕ
@@ -40,8 +41,8 @@ pub record IsCell (c : Cell) : Type 0 where
   pub value : c.value < prime
 
 -- The addresses, in the order of the cells. Own.
-abbrev pub addresses : List Cell → List ℕ
-addresses cells = map (λ c. c.addr) cells
+abbrev pub cell_addresses : List Cell → List ℕ
+cell_addresses cells = map (λ c. c.addr) cells
 
 -- The bytes of the memory file of these cells. Own.
 abbrev pub memory_bytes : List Cell → List ℕ
@@ -53,7 +54,7 @@ pub record SpellsMemory (bytes : List ℕ) (cells : List Cell) : Type 0 where
   pub parts : bytes ≡ memory_bytes cells
   pub most : length cells ≤ most_cells
   pub numbers : AllByRecursion IsCell cells
-  pub ascending : IsStrictlyIncreasing (addresses cells)
+  pub ascending : IsStrictlyIncreasing (cell_addresses cells)
 
 -- Each entry that begins before a place has an address above that of the entry before it, which begins 16 bytes
 -- earlier. Own.
@@ -102,7 +103,7 @@ ascends_at bytes place = nat_lt place 16 || nat_lt (number_at bytes (place - 16)
 
 -- The place of the first entry whose address isn't above that of the entry before it. Own.
 abbrev pub first_disorder : List ℕ → Option ℕ
-first_disorder bytes = first_failing 16 (ascends_at bytes) bytes
+first_disorder bytes = first_failing_place 16 (ascends_at bytes) bytes
 
 -- The cells, unless a number is none of the field or an address is out of order; of both the one that is met first
 -- entry by entry. Own.

@@ -2,10 +2,11 @@
 use Rattle.std.specs.Prelude.{◌≡◌, ◌≢◌, ◌⊎◌, ℕ, ◌+◌, ◌*◌, ◌/◌, ◌%◌, ◌<◌, ◌≤◌, ◌^◌, ◌==◌, Bool, ◌&&◌, nat_lt, nat_le, List, ◌++◌, length, map, Option, Some, None, Result, Ok, Err, if◌then◌else◌}
 use Rattle.std.specs.List.{flat_map, range_with_len, AllByRecursion}
 use Rattle.goldilocks.specs.Field.{prime}
+use Rattle.goldilocks.specs.FileNumbers.{number_bytes, number_at}
 use Rattle.casm_word.specs.Transition.{Registers}
 use Rattle.trace_files.specs.declared.fault.FileFault.{FileFault}
 use Rattle.trace_files.specs.declared.fault.FileFault.TheVariants.{TooMany, Length, NotField, Order, Memory}
-use Rattle.trace_files.specs.FileNumbers.{number_bytes, number_at, IsFirstNotField, first_not_field}
+use Rattle.trace_files.specs.FileNumbers.{IsFirstNotField, first_not_field}
 
 -- The most states that a trace file may have: those of 2^20 steps. Own.
 abbrev pub most_states : ℕ

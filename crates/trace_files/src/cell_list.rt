@@ -3,7 +3,7 @@
 ghost use Rattle.std.specs.Prelude.{◌≡◌, ◌≤◌, ◌↔◌, IsTrue, IfSome, Contains, List, length};
 ghost use Rattle.std.specs.List.Sorted.{IsStrictlyIncreasing};
 ghost use Rattle.goldilocks.specs.declared.Pair.{Pair};
-ghost use Rattle.trace_files.specs.MemoryFile.{addresses, as_cells, most_cells};
+ghost use Rattle.trace_files.specs.MemoryFile.{cell_addresses, as_cells, most_cells};
 
 use casm_word::Reads;
 use goldilocks::{Felt, Pair};
@@ -17,7 +17,7 @@ pub(crate) const MOST_CELLS: usize = 1 << 21;
 #[derive(Debug, Drop)]
 pub struct CellList {
     pub(crate) cells: Vec<Pair>,
-    pub ghost ascending: { IsStrictlyIncreasing (addresses (as_cells cells.items)) },
+    pub ghost ascending: { IsStrictlyIncreasing (cell_addresses (as_cells cells.items)) },
     pub ghost most: { length cells.items ≤ most_cells },
 }
 
@@ -85,7 +85,7 @@ fn likely_cell(cells: &[Pair], a: Felt) -> Option<Pair>
 
 /// Whether each address is above the one before.
 fn ascend(cells: &[Pair]) -> bool
-    ensures { IsTrue result ↔ IsStrictlyIncreasing (addresses (as_cells cells.now)) }
+    ensures { IsTrue result ↔ IsStrictlyIncreasing (cell_addresses (as_cells cells.now)) }
 {
     for next in 1..cells.len() {
         if cells[next].addr.get() <= cells[next - 1].addr.get() {

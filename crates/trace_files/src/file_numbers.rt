@@ -3,7 +3,8 @@
 ghost use Rattle.std.specs.Prelude.{◌≡◌, ◌+◌, ◌%◌, ◌≤◌, ◌++◌, IfOk, IfErr, OnOk, option_map, length, if◌then◌else◌, nat_lt, Some, None};
 ghost use Rattle.std.specs.Int.{from_le_bytes, w64};
 ghost use Rattle.goldilocks.specs.Field.{prime};
-ghost use Rattle.trace_files.specs.FileNumbers.{number_at, number_bytes, AreNumbersBefore};
+ghost use Rattle.goldilocks.specs.FileNumbers.{number_bytes, number_at};
+ghost use Rattle.trace_files.specs.FileNumbers.{AreNumbersBefore};
 ghost use Rattle.trace_files.specs.Parts.{IsNumberFault};
 
 use crate::FileFault;

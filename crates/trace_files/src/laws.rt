@@ -4,11 +4,12 @@ ghost use Rattle.std.specs.Prelude.{◌≡◌, ℕ, ◌+◌, ◌<◌, ◌≤◌,
 ghost use Rattle.std.specs.List.{AllByRecursion};
 ghost use Rattle.std.specs.List.Sorted.{IsStrictlyIncreasing};
 ghost use Rattle.goldilocks.specs.Field.{prime};
+ghost use Rattle.goldilocks.specs.FileNumbers.{number_at};
 ghost use Rattle.casm_word.specs.Transition.{Registers};
 ghost use Rattle.trace_files.specs.declared.fault.FileFault.{FileFault};
-ghost use Rattle.trace_files.specs.FileNumbers.{IsNumberAt, number_at};
+ghost use Rattle.trace_files.specs.FileNumbers.{IsNumberAt};
 ghost use Rattle.trace_files.specs.TraceFile.{SpellsTrace, IsState, IsTraceFault, trace_bytes, trace_reading, most_states};
-ghost use Rattle.trace_files.specs.MemoryFile.{Cell, SpellsMemory, IsCell, IsMemoryFault, memory_bytes, memory_reading, addresses, most_cells};
+ghost use Rattle.trace_files.specs.MemoryFile.{Cell, SpellsMemory, IsCell, IsMemoryFault, memory_bytes, memory_reading, cell_addresses, most_cells};
 
 /// All bytes either spell one value, which is what they are read as, or have one fault.
 pub fn reading_laws()
@@ -37,5 +38,5 @@ pub fn writing_laws()
     ensures trace { (states : List Registers) → 2 ≤ length states → length states ≤ most_states →
         AllByRecursion IsState states → trace_reading (trace_bytes states) ≡ Ok states }
     ensures memory { (cells : List Cell) → length cells ≤ most_cells →
-        AllByRecursion IsCell cells → IsStrictlyIncreasing (addresses cells) → memory_reading (memory_bytes cells) ≡ Ok cells }
+        AllByRecursion IsCell cells → IsStrictlyIncreasing (cell_addresses cells) → memory_reading (memory_bytes cells) ≡ Ok cells }
 {}

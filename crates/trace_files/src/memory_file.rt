@@ -2,7 +2,7 @@
 
 ghost use Rattle.std.specs.Prelude.{◌≡◌, ◌≢◌, ◌+◌, ◌*◌, ◌≤◌, ◌++◌, ◌↔◌, IsTrue, IfOk, IfErr, OnOk, MatchResult, List, Ok, Err, length};
 ghost use Rattle.trace_files.specs.FileNumbers.{AreNumbersBefore};
-ghost use Rattle.trace_files.specs.MemoryFile.{Cell, SpellsMemory, IsMemoryFault, HasMemoryLength, memory_bytes, memory_reading, cell_at, cell_bytes, addresses, as_cell, as_cells};
+ghost use Rattle.trace_files.specs.MemoryFile.{Cell, SpellsMemory, IsMemoryFault, HasMemoryLength, memory_bytes, memory_reading, cell_at, cell_bytes, cell_addresses, as_cell, as_cells};
 ghost use Rattle.trace_files.specs.CellList.{listed};
 ghost use Rattle.trace_files.specs.Parts.{IsNumberFault, LastBelow};
 
@@ -69,7 +69,7 @@ fn cells_of(alloc: Global, bytes: &[u8]) -> Result<Vec<Pair>, FileFault>
 
 /// Whether the cell has a greater address than the last of the cells, or is the first.
 fn is_above(cells: &[Pair], cell: Pair) -> bool
-    ensures { IsTrue result ↔ LastBelow (addresses (as_cells cells.now)) cell.addr.number }
+    ensures { IsTrue result ↔ LastBelow (cell_addresses (as_cells cells.now)) cell.addr.number }
 {
     match cells.last() {
         Some(last) => last.addr.get() < cell.addr.get(),

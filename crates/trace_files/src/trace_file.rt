@@ -80,6 +80,7 @@ fn state_of(bytes: &[u8], i: usize) -> Result<State, FileFault>
 }
 
 /// The bytes of the trace file of the states: the only ones that spell them, and [`read_trace`] reads the states back.
+/// There are 2 to 2^20 + 1 states.
 pub fn write_trace(alloc: Global, states: &[State]) -> Result<Vec<u8>, AllocError>
     requires least { 2 ≤ length states.now }
     requires most { length states.now ≤ most_states }

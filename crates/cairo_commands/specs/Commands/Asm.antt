@@ -12,7 +12,7 @@ use Rattle.assembler.specs.Assembling.{Assembly, assembly_of}
 use Rattle.program_file.specs.Format.{written}
 use Rattle.cairo_commands.specs.declared.status.Status.{Status}
 use Rattle.cairo_commands.specs.declared.status.Status.TheVariants.{Done}
-use Rattle.cairo_commands.specs.Answer.{Answer, Task}
+use Rattle.cairo_commands.specs.Answer.{Answer, Input, Task}
 use Rattle.cairo_commands.specs.Request.{Request, Asm, are_names}
 use Rattle.cairo_commands.specs.Reading.{◌>>=◌, answered, read_as}
 use Rattle.cairo_commands.specs.Programs.{text_limit, text_input, text_read, listing_of}
@@ -25,6 +25,10 @@ asm_request (text ∷ program ∷ []) = if are_names (text ∷ []) (program ∷ 
 asm_request [] = None
 asm_request (a ∷ []) = None
 asm_request (a ∷ b ∷ c ∷ more) = None
+
+-- The assembly text: the first name. Own.
+abbrev pub asm_text : Name → Input
+asm_text text = text_input 1 text
 
 -- The line of a program of so many words. Own.
 abbrev pub asm_line : ℕ → List ℕ
@@ -43,13 +47,13 @@ program_answer program a = record {
 -- The text is read and assembled. Own.
 unfoldable pub asm_answer : Name → Name → Files → Answer
 asm_answer text program files = answered (do
-  a ← read_as text_read (text_input 1 text) files
+  a ← read_as text_read (asm_text text) files
   Ok (program_answer program a))
 
 -- What `asm` reads, writes and answers. Own.
 abbrev pub asm_task : Name → Name → Task
 asm_task text program = record {
-  inputs = text_input 1 text ∷ [];
+  inputs = asm_text text ∷ [];
   outputs = program ∷ [];
   answer = asm_answer text program;
 }

@@ -1,15 +1,9 @@
 -- `check PROGRAM PUBLIC TABLES`: do tables meet every written constraint, and so describe a run of the program? Its words,
 -- its inputs, its answer, and what its endings mean. Own, but where another source is named.
-use Rattle.std.specs.Prelude.{◌≡◌, ◌↔◌, ◌≤◌, ℕ, List, [], ◌∷◌, ◌++◌, length, Option, Some, None, Ok, if◌then◌else◌, codes}
+use Rattle.std.specs.Prelude.{◌≡◌, ◌↔◌, ℕ, List, [], ◌∷◌, ◌++◌, length, Option, Some, None, Ok, if◌then◌else◌, codes}
 use Rattle.std.specs.Fmt.{decimal}
 use Rattle.std.specs.Io.KnownBytes.{Appends}
-use Rattle.file_port.specs.Files.{Name, Files, file_at}
-use Rattle.program_file.specs.Listing.{Listing}
-use Rattle.program_file.specs.Format.{Spells as SpellsProgram}
-use Rattle.public_input.specs.Statement.{Statement}
-use Rattle.public_input.specs.Spelling.{SpellsPublic}
-use Rattle.table_file.specs.Tables.{Contents}
-use Rattle.table_file.specs.Spelling.{Spells as SpellsTables}
+use Rattle.file_port.specs.Files.{Name, Files}
 use Rattle.constraint_checker.specs.declared.Constraint.{Constraint}
 use Rattle.constraint_checker.specs.declared.Verdict.{Verdict}
 use Rattle.constraint_checker.specs.declared.Verdict.TheVariants as verdict_is
@@ -19,11 +13,11 @@ use Rattle.constraint_checker.specs.Verdict.{verdict}
 use Rattle.constraint_checker.specs.Acceptance.{DescribeRun}
 use Rattle.cairo_commands.specs.declared.status.Status.{Status}
 use Rattle.cairo_commands.specs.declared.status.Status.TheVariants.{Done, Refused}
-use Rattle.cairo_commands.specs.Answer.{Answer, Task, says}
+use Rattle.cairo_commands.specs.Answer.{Answer, Input, Task, says}
 use Rattle.cairo_commands.specs.Request.{Request, Check, are_names}
 use Rattle.cairo_commands.specs.Reading.{◌>>=◌, answered, read_as}
-use Rattle.cairo_commands.specs.Programs.{text_limit, program_input, program_read}
-use Rattle.cairo_commands.specs.TableInputs.{public_limit, public_input, public_read, tables_limit, tables_input, tables_read}
+use Rattle.cairo_commands.specs.Programs.{program_input, program_read, HoldsProgram}
+use Rattle.cairo_commands.specs.TableInputs.{public_input, public_read, HoldsPublic, tables_input, tables_read, HoldsColumns}
 
 -- ---- its words, its inputs and its lines
 
@@ -35,6 +29,18 @@ check_request [] = None
 check_request (a ∷ []) = None
 check_request (a ∷ b ∷ []) = None
 check_request (a ∷ b ∷ c ∷ d ∷ more) = None
+
+-- The program: the first name. Own.
+abbrev pub check_program : Name → Input
+check_program program = program_input 1 program
+
+-- The public input: the second name. Own.
+abbrev pub check_public : Name → Input
+check_public public = public_input 2 public
+
+-- The tables: the third name. Own.
+abbrev pub check_tables : Name → Input
+check_tables tables = tables_input 3 tables
 
 -- The line of tables of so many steps that are accepted. Own.
 abbrev pub accepted_line : ℕ → List ℕ
@@ -55,15 +61,15 @@ checked rows (verdict_is.Refused constraint row) = says Refused (refused_line co
 -- All three files are read, in the order of their names, and then the tables have their verdict. Own.
 unfoldable pub check_answer : Name → Name → Name → Files → Answer
 check_answer program public tables files = answered (do
-  p ← read_as program_read (program_input 1 program) files
-  u ← read_as public_read (public_input 2 public) files
-  t ← read_as tables_read (tables_input 3 tables) files
+  p ← read_as program_read (check_program program) files
+  u ← read_as public_read (check_public public) files
+  t ← read_as tables_read (check_tables tables) files
   Ok (checked (length t.rows) (verdict p u t)))
 
 -- What `check` reads and answers. Own.
 abbrev pub check_task : Name → Name → Name → Task
 check_task program public tables = record {
-  inputs = program_input 1 program ∷ public_input 2 public ∷ tables_input 3 tables ∷ [];
+  inputs = check_program program ∷ check_public public ∷ check_tables tables ∷ [];
   outputs = [];
   answer = check_answer program public tables;
 }
@@ -71,43 +77,34 @@ check_task program public tables = record {
 -- ---- what its endings mean
 
 -- The files have these three, each within its limit, and they spell a program, a public input and tables. Own.
-pub record HoldsTables (program public tables : Name) (files : Files) : Type 0 where
-  pub program_bytes : List ℕ
-  pub program_held : file_at files program ≡ Some program_bytes
-  pub program_short : length program_bytes ≤ text_limit
-  pub listed : Listing
-  pub program_spelled : SpellsProgram program_bytes listed
-  pub public_bytes : List ℕ
-  pub public_held : file_at files public ≡ Some public_bytes
-  pub public_short : length public_bytes ≤ public_limit
-  pub stated : Statement
-  pub public_spelled : SpellsPublic public_bytes stated
-  pub tables_bytes : List ℕ
-  pub tables_held : file_at files tables ≡ Some tables_bytes
-  pub tables_short : length tables_bytes ≤ tables_limit
-  pub columns : Contents
-  pub tables_spelled : SpellsTables tables_bytes columns
+pub record HoldsTables (program_name public_name tables_name : Name) (files : Files) : Type 0 where
+  pub program : HoldsProgram program_name files
+  pub public : HoldsPublic public_name files
+  pub tables : HoldsColumns tables_name files
 
--- The files spell a program, a public input and tables, and the tables meet every written constraint. Own.
+-- The files are within their limits and spell a program, a public input and tables, and the tables meet every written
+-- constraint. Own.
 pub record MeetsConstraints (program public tables : Name) (files : Files) : Type 0 where
   pub held : HoldsTables program public tables files
-  pub meets : MeetsAll held.listed held.stated held.columns
+  pub meets : MeetsAll held.program.listed held.public.stated held.tables.columns
 
--- The files spell a program, a public input and tables, and this constraint is the first that fails, at this row. Own.
+-- The files are within their limits and spell a program, a public input and tables, and this constraint is the first
+-- that fails, at this row. Own.
 pub record BreaksConstraint (program public tables : Name) (files : Files) : Type 0 where
   pub held : HoldsTables program public tables files
   pub constraint : Constraint
   pub row : ℕ
-  pub first : verdict held.listed held.stated held.columns ≡ verdict_is.Refused constraint row
+  pub first : verdict held.program.listed held.public.stated held.tables.columns ≡ verdict_is.Refused constraint row
 
--- What the endings of `check` mean. It ends with `Done` exactly where its files spell a program, a public input and
--- tables, and the tables meet every written constraint. Then they describe a run of the program with this public input,
--- and the line tells how many steps it has. It ends with `Refused` exactly where the files spell all three and some
--- constraint fails, and the line tells the first one, and its row. The last two arguments are the bytes that were
--- written before and now. The whitepaper's statement of what a proof of a run shows.
+-- What the endings of `check` mean. It ends with `Done` exactly where its files are within their limits and spell a
+-- program, a public input and tables, and the tables meet every written constraint. Then they describe a run of the
+-- program with this public input, and the line tells how many steps it has. It ends with `Refused` exactly where the
+-- files are within their limits and spell all three, and some constraint fails. The line then tells the first one, and
+-- its row. The last two arguments are the bytes that were written before and now. The whitepaper's statement of what a
+-- proof of a run shows.
 pub record CheckMeans (program public tables : Name) (files : Files) (status : Status) (before now : Option (List ℕ)) : Type 0 where
   pub accepted : (status ≡ Done) ↔ MeetsConstraints program public tables files
-  pub describes : (check : MeetsConstraints program public tables files) → DescribeRun check.held.listed check.held.stated check.held.columns
-  pub accepted_line : (check : MeetsConstraints program public tables files) → Appends before now (accepted_line (length check.held.columns.rows))
+  pub describes : (check : MeetsConstraints program public tables files) → DescribeRun check.held.program.listed check.held.public.stated check.held.tables.columns
+  pub accepted_line : (check : MeetsConstraints program public tables files) → Appends before now (accepted_line (length check.held.tables.columns.rows))
   pub refused : (status ≡ Refused) ↔ BreaksConstraint program public tables files
   pub refused_line : (check : BreaksConstraint program public tables files) → Appends before now (refused_line check.constraint check.row)

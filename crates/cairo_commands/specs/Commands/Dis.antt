@@ -1,21 +1,20 @@
 -- `dis PROGRAM TEXT`: the words of a program file are shown as an assembly text. Its words, its inputs, its answer, and
 -- what its endings mean. Own.
-use Rattle.std.specs.Prelude.{◌≡◌, ◌↔◌, ◌≤◌, ℕ, List, [], ◌∷◌, ◌++◌, length, Option, Some, None, Ok, if◌then◌else◌, codes}
+use Rattle.std.specs.Prelude.{◌≡◌, ◌↔◌, ℕ, List, [], ◌∷◌, ◌++◌, length, Option, Some, None, Ok, if◌then◌else◌, codes}
 use Rattle.std.specs.Fmt.{decimal}
 use Rattle.std.specs.FinMap.{insert}
 use Rattle.std.specs.Io.KnownBytes.{Appends}
-use Rattle.file_port.specs.Files.{Name, Files, file_at}
+use Rattle.file_port.specs.Files.{Name, Files}
 use Rattle.casm_statements.specs.declared.Item.{Item}
 use Rattle.casm_text.specs.Canonical.{printed}
 use Rattle.assembler.specs.Disassembly.{Disassembles}
 use Rattle.program_file.specs.Listing.{Listing}
-use Rattle.program_file.specs.Format.{Spells}
 use Rattle.cairo_commands.specs.declared.status.Status.{Status}
 use Rattle.cairo_commands.specs.declared.status.Status.TheVariants.{Done}
-use Rattle.cairo_commands.specs.Answer.{Answer, Task}
+use Rattle.cairo_commands.specs.Answer.{Answer, Input, Task}
 use Rattle.cairo_commands.specs.Request.{Request, Dis, are_names}
 use Rattle.cairo_commands.specs.Reading.{◌>>=◌, answered, read_as}
-use Rattle.cairo_commands.specs.Programs.{text_limit, program_input, program_read, items_of}
+use Rattle.cairo_commands.specs.Programs.{program_input, program_read, HoldsProgram, items_of}
 
 -- ---- its words, its inputs and its line
 
@@ -25,6 +24,10 @@ dis_request (program ∷ text ∷ []) = if are_names (program ∷ []) (text ∷ 
 dis_request [] = None
 dis_request (a ∷ []) = None
 dis_request (a ∷ b ∷ c ∷ more) = None
+
+-- The program: the first name. Own.
+abbrev pub dis_program : Name → Input
+dis_program program = program_input 1 program
 
 -- The line of a text of so many words. Own.
 abbrev pub dis_line : ℕ → List ℕ
@@ -43,26 +46,18 @@ text_answer text p = record {
 -- The program is read and shown. Own.
 unfoldable pub dis_answer : Name → Name → Files → Answer
 dis_answer program text files = answered (do
-  p ← read_as program_read (program_input 1 program) files
+  p ← read_as program_read (dis_program program) files
   Ok (text_answer text p))
 
 -- What `dis` reads, writes and answers. Own.
 abbrev pub dis_task : Name → Name → Task
 dis_task program text = record {
-  inputs = program_input 1 program ∷ [];
+  inputs = dis_program program ∷ [];
   outputs = text ∷ [];
   answer = dis_answer program text;
 }
 
 -- ---- what its endings mean
-
--- The files have a program file of this name, within its limit. Own.
-pub record HoldsProgram (program : Name) (files : Files) : Type 0 where
-  pub bytes : List ℕ
-  pub held : file_at files program ≡ Some bytes
-  pub short : length bytes ≤ text_limit
-  pub listed : Listing
-  pub spelled : Spells bytes listed
 
 -- The files are those from before, but that the text's name has the canonical text of the items that the program
 -- disassembles into. Own.
@@ -71,9 +66,10 @@ pub record WritesText (text : Name) (p : Listing) (files : Files) (after : Optio
   pub disassembled : Disassembles p.words p.start p.end p.builtins.output p.builtins.range items
   pub written : after ≡ Some (insert files text (printed items))
 
--- What the endings of `dis` mean. It ends with `Done` exactly where its program file spells a program. The files are then
--- as before, but that the text's name has the canonical text of what the program's words are shown as, and the line
--- tells how many words that are. The last two arguments are the bytes that were written before and now. Own.
+-- What the endings of `dis` mean. It ends with `Done` exactly where its program file is within its limit and spells a
+-- program. The files are then as before, but that the text's name has the canonical text of what the program's words
+-- are shown as. The line tells how many words there are. The last two arguments are the bytes that were written before
+-- and now. Own.
 pub record DisMeans (program text : Name) (files : Files) (status : Status) (after : Option Files) (before now : Option (List ℕ)) : Type 0 where
   pub shown : (status ≡ Done) ↔ HoldsProgram program files
   pub text_written : (dis : HoldsProgram program files) → WritesText text dis.listed files after

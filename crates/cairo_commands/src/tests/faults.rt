@@ -2,11 +2,11 @@
 
 ghost use Rattle.std.specs.Prelude.{None};
 
-use super::{MEMORY, TRACE, WALK, bytes_of, check, store_of, words_of};
+use super::{MEMORY, TRACE, WALK, bytes_of, check_call, status_of, store_of};
+use crate::Status;
 use crate::Status::{Done, Input};
-use crate::{Status, perform};
 use file_port::{MemorySink, MemoryStore, PortError, Sink, Store, SureSink, SureStore};
-use std::alloc::Global;
+use std::alloc::{AllocError, Global};
 use std::test::Fail;
 
 /// The calls of the store that fail, and what is answered over a run's files.
@@ -54,7 +54,7 @@ fn faults_are_told(rt: HostRuntime) -> Result<(), Fail> {
     let files: [(&str, &[u8]); 2] = [("T", &trace), ("M", &memory)];
     for (row, fails, status, line) in FAULTS {
         let mut store = store_of(alloc, &files, fails)?;
-        check(&rt, alloc, row, WALK, &mut store, (*status, line))?;
+        check_call(&rt, alloc, row, WALK, &mut store, (*status, line))?;
     }
     Ok(())
 }
@@ -130,13 +130,13 @@ fn files_are_read_in_any_pieces(rt: HostRuntime) -> Result<(), Fail> {
     for (row, fails, status, line) in BYTEWISE_FAULTS {
         let store = store_of(alloc, &files, fails)?;
         let mut store = Bytewise { store };
-        check(&rt, alloc, row, WALK, &mut store, (*status, line))?;
+        check_call(&rt, alloc, row, WALK, &mut store, (*status, line))?;
     }
     memory.truncate(223);
     let store = store_of(alloc, &[("T", &trace), ("M", &memory)], &[])?;
     let mut store = Bytewise { store };
     let row = "a memory with a byte cut";
-    check(
+    check_call(
         &rt,
         alloc,
         row,
@@ -147,16 +147,22 @@ fn files_are_read_in_any_pieces(rt: HostRuntime) -> Result<(), Fail> {
     Ok(())
 }
 
+/// A store without faults that has a run's files.
+fn sure_store(alloc: Global) -> Result<SureStore, AllocError> {
+    let trace = bytes_of(alloc, TRACE)?;
+    let memory = bytes_of(alloc, MEMORY)?;
+    let mut files = Vec::new(alloc);
+    files.push((String::from_str(alloc, "T")?, trace))?;
+    files.push((String::from_str(alloc, "M")?, memory))?;
+    Ok(SureStore::new(files))
+}
+
 #[test]
 fn a_store_and_a_sink_without_faults_answer(rt: HostRuntime) -> Result<(), Fail> {
     let alloc = rt.alloc();
-    let mut files = Vec::new(alloc);
-    files.push((String::from_str(alloc, "T")?, bytes_of(alloc, TRACE)?))?;
-    files.push((String::from_str(alloc, "M")?, bytes_of(alloc, MEMORY)?))?;
-    let mut store = SureStore::new(files);
+    let mut store = sure_store(alloc)?;
     let mut sink = SureSink::new(alloc);
-    let words = words_of(alloc, WALK)?;
-    assert_eq!(rt; perform(alloc, &words, &mut store, &mut sink), Done);
+    assert_eq!(rt; status_of(alloc, WALK, &mut store, &mut sink)?, Done);
     assert_eq!(rt; sink.bytes(), b"walk: 4 steps\n".as_slice());
     Ok(())
 }
@@ -184,7 +190,6 @@ fn faults_of_the_sink_end_the_call(rt: HostRuntime) -> Result<(), Fail> {
     let trace = bytes_of(alloc, TRACE)?;
     let memory = bytes_of(alloc, MEMORY)?;
     let files: [(&str, &[u8]); 2] = [("T", &trace), ("M", &memory)];
-    let words = words_of(alloc, WALK)?;
     // What is to be printed is `walk: 4 steps`, or `store fault: M`.
     for (fails, half) in [([0], "walk: 4"), ([4], "store f")] {
         let mut store = store_of(alloc, &files, &fails)?;
@@ -192,19 +197,19 @@ fn faults_of_the_sink_end_the_call(rt: HostRuntime) -> Result<(), Fail> {
             bytes: Vec::new(alloc),
             faults: 0,
         };
-        let status = perform(alloc, &words, &mut store, &mut sink);
+        let status = status_of(alloc, WALK, &mut store, &mut sink)?;
         assert_eq!(rt; status, Status::Sink, "half of {half}");
         assert_eq!(rt; sink.bytes.as_slice(), half.as_bytes(), "half of {half}");
         let mut store = store_of(alloc, &files, &fails)?;
         let mut sink = MemorySink::new(alloc, Vec::from_slice(alloc, &[1])?);
-        let status = perform(alloc, &words, &mut store, &mut sink);
+        let status = status_of(alloc, WALK, &mut store, &mut sink)?;
         assert_eq!(rt; status, Status::Sink, "nothing of {half}");
         assert_eq!(rt; sink.bytes(), b"".as_slice(), "nothing of {half}");
     }
     // The line is one call of the sink: a second one would fail.
     let mut store = store_of(alloc, &files, &[])?;
     let mut sink = MemorySink::new(alloc, Vec::from_slice(alloc, &[2])?);
-    assert_eq!(rt; perform(alloc, &words, &mut store, &mut sink), Done);
+    assert_eq!(rt; status_of(alloc, WALK, &mut store, &mut sink)?, Done);
     assert_eq!(rt; sink.bytes(), b"walk: 4 steps\n".as_slice());
     Ok(())
 }
@@ -243,13 +248,11 @@ impl Sink for NoMemory {
 fn want_of_memory_ends_the_call(rt: HostRuntime) -> Result<(), Fail> {
     let alloc = rt.alloc();
     // Nothing is put, so a sink that would fail doesn't.
-    let walk = words_of(alloc, WALK)?;
     let mut failing = MemorySink::new(alloc, Vec::from_slice(alloc, &[1])?);
-    let status = perform(alloc, &walk, &mut NoMemory, &mut failing);
+    let status = status_of(alloc, WALK, &mut NoMemory, &mut failing)?;
     assert_eq!(rt; status, Status::Memory, "no memory for a file");
     assert_eq!(rt; failing.bytes(), b"".as_slice());
-    let usage = words_of(alloc, &["walk"])?;
-    let status = perform(alloc, &usage, &mut NoMemory, &mut NoMemory);
+    let status = status_of(alloc, &["walk"], &mut NoMemory, &mut NoMemory)?;
     assert_eq!(rt; status, Status::Memory, "no memory for the line");
     Ok(())
 }

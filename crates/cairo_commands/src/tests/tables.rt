@@ -1,6 +1,6 @@
 //! `tables`: runs from outside, what stands in the way of tables, and what a failed call leaves.
 
-use super::checks::{END_5, START_1};
+use super::check::{END_5, START_1};
 use super::vectors::{
     FOUR_STEPS, FOUR_STEPS_PROGRAM, FOUR_STEPS_PUBLIC, JUMP_NOT_TAKEN, JUMP_NOT_TAKEN_MEMORY,
     JUMP_NOT_TAKEN_PROGRAM, JUMP_NOT_TAKEN_PUBLIC, JUMP_NOT_TAKEN_TRACE, JUMP_TAKEN,
@@ -9,9 +9,8 @@ use super::vectors::{
     RANGE_CELL, RANGE_CELL_MEMORY, RANGE_CELL_PROGRAM, RANGE_CELL_PUBLIC, RANGE_CELL_TRACE,
     wide_bytes,
 };
-use super::{MEMORY, TRACE, bytes_of, check, store_of, words_of};
+use super::{MEMORY, TRACE, bytes_of, check_call, status_of, store_of, with_number};
 use crate::Status::{self, Done, Input, Limit, Missing, Refused, Sink, Store as StoreFault, Words};
-use crate::perform;
 use file_port::{MemorySink, MemoryStore};
 use std::alloc::{AllocError, Global};
 use std::process::Abort;
@@ -94,13 +93,13 @@ fn check_built(
     lines: (&str, &str),
 ) -> Result<(), AllocError> {
     let mut store = store_of(alloc, files, &[])?;
-    check(rt, alloc, row, TABLES, &mut store, (Done, lines.0))?;
+    check_call(rt, alloc, row, TABLES, &mut store, (Done, lines.0))?;
     assert!(rt; store.file("O") == Some(tables), "{row}: the tables");
     for (name, bytes) in files {
         assert!(rt; store.file(name) == Some(*bytes), "{row}: {name} stays");
     }
     let words = ["check", "P", "U", "O"];
-    check(rt, alloc, row, &words, &mut store, (Done, lines.1))
+    check_call(rt, alloc, row, &words, &mut store, (Done, lines.1))
 }
 
 #[test]
@@ -135,44 +134,37 @@ fn public_with(alloc: Global, members: &str) -> Result<Vec<u8>, AllocError> {
 
 /// The trace of the four steps with another number at a place, if there is one.
 fn trace_with(alloc: Global, change: Option<(usize, u64)>) -> Result<Vec<u8>, AllocError> {
-    let mut numbers = Vec::from_slice(alloc, TRACE)?;
-    if let Some((place, number)) = change {
-        if let Some(old) = numbers.get_mut(place) {
-            *old = number;
+    match change {
+        Some((place, number)) => {
+            let numbers = with_number(alloc, TRACE, place, number)?;
+            bytes_of(alloc, &numbers)
         }
+        None => bytes_of(alloc, TRACE),
     }
-    bytes_of(alloc, &numbers)
 }
 
-/// A cell with a value, or none.
-#[derive(Clone, Copy)]
-enum Cell {
-    With(u64, u64),
-    Without(u64),
-}
-
-use Cell::{With, Without};
+/// An address, and the value that its cell has, or `None` where there is no cell.
+type Cell = (u64, Option<u64>);
 
 /// The addresses that memories are looked at here: those of the four steps up to 14, and others.
 const ADDRESSES: [u64; 18] = [
     1, 2, 3, 4, 5, 6, 7, 8, 9, 10, 11, 12, 13, 14, 15, 16, 17, 2097168,
 ];
 
+/// The value at an address of the four steps.
+fn value_of_steps(address: u64) -> Option<u64> {
+    let cell = MEMORY
+        .chunks_exact(2)
+        .find(|cell| cell.first() == Some(&address))?;
+    cell.get(1).copied()
+}
+
 /// The value at an address of the four steps, after the changes.
 fn value_at(address: u64, changes: &[Cell]) -> Option<u64> {
-    for change in changes {
-        match *change {
-            With(changed, value) if changed == address => return Some(value),
-            Without(changed) if changed == address => return None,
-            _ => {}
-        }
+    match changes.iter().find(|change| change.0 == address) {
+        Some(change) => change.1,
+        None => value_of_steps(address),
     }
-    for cell in MEMORY.chunks_exact(2) {
-        if cell.first() == Some(&address) {
-            return cell.get(1).copied();
-        }
-    }
-    None
 }
 
 /// The memory of the four steps with these changes.
@@ -205,7 +197,7 @@ const FAR_CELL: &str = r#""cells":[["0xa","0xc"],["0xb","0x0"],["0x200010","0x7"
 const FAR_AND_LOW: &str =
     r#""rc_max":32768,"cells":[["0xa","0xc"],["0xb","0x0"],["0x200010","0x7"]]"#;
 
-const FAR: Cell = With(2097168, 7);
+const FAR: Cell = (2097168, Some(7));
 
 /// The pc of state 3 is 10, which step 2 doesn't come to.
 const OTHER_STEP: Option<(usize, u64)> = Some((11, 10));
@@ -280,7 +272,7 @@ const REFUSED: &[Changed] = &[
         FOUR_STEPS_PROGRAM,
         "",
         None,
-        &[Without(14)],
+        &[(14, None)],
         "tables: refused: Step 2: NoCell 14\n",
     ),
     (
@@ -288,7 +280,7 @@ const REFUSED: &[Changed] = &[
         FOUR_STEPS_PROGRAM,
         "",
         None,
-        &[With(14, 26)],
+        &[(14, Some(26))],
         "tables: refused: Step 2: NotEqual\n",
     ),
     (
@@ -296,7 +288,7 @@ const REFUSED: &[Changed] = &[
         FOUR_STEPS_PROGRAM,
         "",
         None,
-        &[With(1, 0x8000_0000_0000_0000)],
+        &[(1, Some(0x8000_0000_0000_0000))],
         "tables: refused: Step 0: BadWord HighBit\n",
     ),
     (
@@ -304,7 +296,7 @@ const REFUSED: &[Changed] = &[
         FOUR_STEPS_PROGRAM,
         "",
         None,
-        &[Without(6)],
+        &[(6, None)],
         "tables: refused: NoCell 6\n",
     ),
     (
@@ -312,7 +304,7 @@ const REFUSED: &[Changed] = &[
         FOUR_STEPS_PROGRAM,
         "",
         None,
-        &[With(6, 7)],
+        &[(6, Some(7))],
         "tables: refused: Mismatch cell 6 0 7\n",
     ),
     (
@@ -320,7 +312,7 @@ const REFUSED: &[Changed] = &[
         FOUR_STEPS_PROGRAM,
         "",
         None,
-        &[Without(10)],
+        &[(10, None)],
         "tables: refused: NoCell 10\n",
     ),
     (
@@ -344,7 +336,7 @@ const REFUSED: &[Changed] = &[
         FOUR_STEPS_PROGRAM,
         r#""range_begin":"0xf","range_count":1"#,
         None,
-        &[With(15, 0x1_0000_0000_0000)],
+        &[(15, Some(0x1_0000_0000_0000))],
         "tables: refused: RangeWidth 0\n",
     ),
     (
@@ -352,7 +344,7 @@ const REFUSED: &[Changed] = &[
         FOUR_STEPS_PROGRAM,
         r#""range_begin":"0xf","range_count":2"#,
         None,
-        &[With(15, 0xffff_ffff_ffff), With(16, 0x1_0000_0000_0000)],
+        &[(15, Some(0xffff_ffff_ffff)), (16, Some(0x1_0000_0000_0000))],
         "tables: refused: RangeWidth 1\n",
     ),
     (
@@ -376,7 +368,7 @@ const REFUSED: &[Changed] = &[
         FOUR_STEPS_PROGRAM,
         r#""range_begin":"0xf","range_count":1"#,
         None,
-        &[With(15, 5)],
+        &[(15, Some(5))],
         "tables: refused: Mismatch rc_min 32766 0\n",
     ),
     (
@@ -384,7 +376,7 @@ const REFUSED: &[Changed] = &[
         FOUR_STEPS_PROGRAM,
         r#""rc_min":0,"range_begin":"0xf","range_count":1"#,
         None,
-        &[With(15, 40000)],
+        &[(15, Some(40000))],
         "tables: refused: Mismatch rc_max 32769 40000\n",
     ),
     (
@@ -440,7 +432,7 @@ const REFUSED: &[Changed] = &[
         FOUR_STEPS_PROGRAM,
         "",
         OTHER_STEP,
-        &[Without(6)],
+        &[(6, None)],
         "tables: refused: Step 2: Mismatch\n",
     ),
     (
@@ -448,7 +440,7 @@ const REFUSED: &[Changed] = &[
         FOUR_STEPS_PROGRAM,
         "",
         None,
-        &[With(6, 7), Without(10)],
+        &[(6, Some(7)), (10, None)],
         "tables: refused: Mismatch cell 6 0 7\n",
     ),
     (
@@ -456,7 +448,7 @@ const REFUSED: &[Changed] = &[
         FOUR_STEPS_PROGRAM,
         r#""range_begin":"0x14","range_count":1"#,
         None,
-        &[Without(10)],
+        &[(10, None)],
         "tables: refused: NoCell 10\n",
     ),
     (
@@ -464,7 +456,7 @@ const REFUSED: &[Changed] = &[
         FOUR_STEPS_PROGRAM,
         r#""range_begin":"0xf","range_count":2"#,
         None,
-        &[With(15, 0x1_0000_0000_0000)],
+        &[(15, Some(0x1_0000_0000_0000))],
         "tables: refused: RangeWidth 0\n",
     ),
     (
@@ -472,7 +464,7 @@ const REFUSED: &[Changed] = &[
         FOUR_STEPS_PROGRAM,
         r#""range_begin":"0xf","range_count":1,"rc_min":32767"#,
         None,
-        &[With(15, 0x1_0000_0000_0000)],
+        &[(15, Some(0x1_0000_0000_0000))],
         "tables: refused: RangeWidth 0\n",
     ),
     (
@@ -508,7 +500,7 @@ fn what_stands_in_the_way_is_told(rt: HostRuntime) -> Result<(), Fail> {
             ("O", b"before"),
         ];
         let mut store = store_of(alloc, &files, &[])?;
-        check(&rt, alloc, row, TABLES, &mut store, (Refused, line))?;
+        check_call(&rt, alloc, row, TABLES, &mut store, (Refused, line))?;
         for (name, bytes) in files {
             assert!(rt; store.file(name) == Some(bytes), "{row}: {name} stays");
         }
@@ -535,7 +527,7 @@ fn gaps_are_filled_from_the_memory(rt: HostRuntime) -> Result<(), Fail> {
     let members = r#""cells":[["0xa","0xc"],["0xb","0x0"],["0x11","0x7"]]"#;
     let public = public_with(alloc, members)?;
     let trace = trace_with(alloc, None)?;
-    let memory = memory_with(alloc, &[With(16, 9), With(17, 7)])?;
+    let memory = memory_with(alloc, &[(16, Some(9)), (17, Some(7))])?;
     let tables = filled_tables(alloc)?;
     let files: [(&str, &[u8]); 4] = [
         ("P", FOUR_STEPS_PROGRAM.as_bytes()),
@@ -614,12 +606,12 @@ fn other_words_and_failing_calls_are_told(rt: HostRuntime) -> Result<(), Fail> {
         // A call on the store would fail.
         let mut store = store_of_steps(alloc, &[1])?;
         let row = format!(in alloc; "{words:?}")?;
-        check(&rt, alloc, &row, words, &mut store, (Words, "usage\n"))?;
+        check_call(&rt, alloc, &row, words, &mut store, (Words, "usage\n"))?;
     }
     for (fails, status, line) in FAULTS {
         let mut store = store_of_steps(alloc, fails)?;
         let row = format!(in alloc; "fails {fails:?}")?;
-        check(&rt, alloc, &row, TABLES, &mut store, (*status, line))?;
+        check_call(&rt, alloc, &row, TABLES, &mut store, (*status, line))?;
         assert!(rt; inputs_stay(alloc, &store)?, "{row}: the inputs stay");
         assert_eq!(rt;
             store.file("O").is_some(),
@@ -627,10 +619,9 @@ fn other_words_and_failing_calls_are_told(rt: HostRuntime) -> Result<(), Fail> {
             "{row}: the tables"
         );
     }
-    let words = words_of(alloc, TABLES)?;
     let mut store = store_of_steps(alloc, &[])?;
     let mut sink = MemorySink::new(alloc, Vec::from_slice(alloc, &[1])?);
-    assert_eq!(rt; perform(alloc, &words, &mut store, &mut sink), Sink);
+    assert_eq!(rt; status_of(alloc, TABLES, &mut store, &mut sink)?, Sink);
     assert!(rt;
         store.file("O").is_some(),
         "a failing sink: the tables are written"
@@ -696,18 +687,20 @@ fn other_inputs_are_told(rt: HostRuntime) -> Result<(), Fail> {
     let alloc = rt.alloc();
     for (gone, line) in GONE {
         let mut store = store_but(alloc, gone, None)?;
-        check(&rt, alloc, line, TABLES, &mut store, (Missing, line))?;
+        check_call(&rt, alloc, line, TABLES, &mut store, (Missing, line))?;
         assert!(rt; store.file("O").is_none(), "{line}: no tables");
     }
     for (other, bytes, status, line) in OTHERS {
         let mut store = store_but(alloc, other, Some(bytes))?;
-        check(&rt, alloc, line, TABLES, &mut store, (*status, line))?;
-        assert!(rt; store.file("O").is_none(), "{other} {line}: no tables");
+        let size = bytes.len();
+        let row = format!(in alloc; "{other} of {size} bytes")?;
+        check_call(&rt, alloc, &row, TABLES, &mut store, (*status, line))?;
+        assert!(rt; store.file("O").is_none(), "{row}: no tables");
     }
     for (other, length, line) in LONG {
         let bytes = vec![in alloc; b' '; *length]?;
         let mut store = store_but(alloc, other, Some(&bytes))?;
-        check(&rt, alloc, line, TABLES, &mut store, (Limit, line))?;
+        check_call(&rt, alloc, line, TABLES, &mut store, (Limit, line))?;
     }
     Ok(())
 }

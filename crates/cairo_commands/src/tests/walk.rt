@@ -1,7 +1,7 @@
 //! `walk` over traces and memories: legal runs, refused steps, and files that spell nothing or are too long.
 
 use super::steps::STEPS;
-use super::{MEMORY, TRACE, WALK, bytes_of, check, check_walk};
+use super::{MEMORY, TRACE, WALK, bytes_of, check_call, check_walk};
 use crate::Status;
 use crate::Status::{Done, Input, Limit, Refused};
 use file_port::MemoryStore;
@@ -204,7 +204,7 @@ fn limits_are_kept(rt: HostRuntime) -> Result<(), Fail> {
         };
         files.push((String::from_str(alloc, "M")?, memory))?;
         let mut store = MemoryStore::new(files, Vec::new(alloc));
-        check(&rt, alloc, row, WALK, &mut store, (*status, line))?;
+        check_call(&rt, alloc, row, WALK, &mut store, (*status, line))?;
     }
     Ok(())
 }

@@ -1,6 +1,6 @@
 //! Words that are an unknown command, names that are missing, and the numbers of the statuses.
 
-use super::{TRACE, WALK, bytes_of, check, store_of, words_of};
+use super::{TRACE, WALK, bytes_of, check_call, store_of, words_of};
 use crate::Status;
 use crate::Status::{Done, Input, Limit, Missing, Refused, Words};
 use crate::words::{are_names, split_workers};
@@ -75,7 +75,7 @@ fn unknown_words_are_told(rt: HostRuntime) -> Result<(), Fail> {
         // A call on the store would fail.
         let mut store = store_of(alloc, &[("T", &trace)], &[1])?;
         let row = format!(in alloc; "{words:?}")?;
-        check(&rt, alloc, &row, words, &mut store, (Words, "usage\n"))?;
+        check_call(&rt, alloc, &row, words, &mut store, (Words, "usage\n"))?;
     }
     Ok(())
 }
@@ -90,12 +90,12 @@ fn missing_names_are_told(rt: HostRuntime) -> Result<(), Fail> {
             list.push((name, bytes_of(alloc, TRACE)?))?;
         }
         let mut store = MemoryStore::new(list, Vec::new(alloc));
-        check(&rt, alloc, row, words, &mut store, (*status, line))?;
+        check_call(&rt, alloc, row, words, &mut store, (*status, line))?;
     }
     // Where the first input decides, the second is not begun, missing or not: that call would fail.
     let row = "the first input decides";
     let mut store = store_of(alloc, &[("T", b"no trace")], &[4])?;
-    check(
+    check_call(
         &rt,
         alloc,
         row,
@@ -104,7 +104,7 @@ fn missing_names_are_told(rt: HostRuntime) -> Result<(), Fail> {
         (Input, "input 1: Length\n"),
     )?;
     let mut store = store_of(alloc, &[("T", b"no trace"), ("M", b"")], &[4])?;
-    check(
+    check_call(
         &rt,
         alloc,
         row,
@@ -114,7 +114,7 @@ fn missing_names_are_told(rt: HostRuntime) -> Result<(), Fail> {
     )?;
     let mut store = store_of(alloc, &[("M", b"")], &[2])?;
     let missing = (Missing, "missing: input 1\n");
-    check(&rt, alloc, row, WALK, &mut store, missing)?;
+    check_call(&rt, alloc, row, WALK, &mut store, missing)?;
     Ok(())
 }
 
@@ -162,13 +162,18 @@ const WORKERS: &[(&[&str], Option<(usize, usize)>)] = &[
     (&["a", "--workers", "--workers"], None),
 ];
 
+/// How many of the words are names, and the number of workers.
+fn told(words: &[String]) -> Option<(usize, usize)> {
+    let (names, workers) = split_workers(words)?;
+    Some((names.len(), workers))
+}
+
 #[test]
 fn workers_are_told(rt: HostRuntime) -> Result<(), Fail> {
     let alloc = rt.alloc();
     for (texts, wanted) in WORKERS {
         let words = words_of(alloc, texts)?;
-        let told = split_workers(&words).map(|(names, workers)| (names.len(), workers));
-        assert!(rt; told == *wanted, "{texts:?}");
+        assert!(rt; told(&words) == *wanted, "{texts:?}");
     }
     Ok(())
 }

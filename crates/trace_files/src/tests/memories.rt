@@ -182,7 +182,7 @@ fn faults_are_written_with_their_places(rt: HostRuntime) -> Result<(), Fail> {
         (FileFault::Memory, "Memory"),
     ] {
         let written = format!(in rt.alloc(); "{fault}")?;
-        assert_eq!(rt; written.as_str(), text);
+        assert_eq!(rt; written.as_str(), text, "{fault:?}: the text");
     }
     Ok(())
 }

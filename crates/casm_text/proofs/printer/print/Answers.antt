@@ -2,7 +2,7 @@ use Rattle.std.proofs.Common.{ℕ, get_or, sym, subst, ap, ◌∙◌, arith, bel
 use Rattle.std.proofs.lemmas.List.{get_or_read, take_all}
 use Rattle.casm_statements.specs.declared.Item.{Item}
 use Rattle.casm_text.specs.Canonical.{printed}
-use Rattle.casm_text.specs.Meaning.{Means, bodies}
+use Rattle.casm_text.specs.Meaning.{MeansBodies, bodies}
 use Rattle.casm_text.specs.Bounds.{IsBody}
 use Rattle.casm_text.proofs.Prints.{printed-more}
 use Rattle.casm_text.proofs.ReadsBack.{printed-means}
@@ -23,4 +23,4 @@ loop-item-preserved c = record {
 pub returns-clause-reads_back : goal.returns-clause-reads_back
 returns-clause-reads_back c =
     let whole = c.loop-item.invariant.text ∙ ap printed (take_all c.loop-item.item-index c.args.items.now c.loop-item-test.false) in
-    subst (λ (t : List ℕ). Means t (bodies c.args.items.now)) (sym whole) (printed-means c.args.items.now (λ k d p. c.loop-item.invariant.kept k d (omega arith)))
+    subst (λ (t : List ℕ). MeansBodies t (bodies c.args.items.now)) (sym whole) (printed-means c.args.items.now (λ k d p. c.loop-item.invariant.kept k d (omega arith)))

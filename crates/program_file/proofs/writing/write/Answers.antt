@@ -1,9 +1,9 @@
 use Rattle.std.proofs.Common.{◌≡◌, ◌∙◌, sym, subst}
 use Rattle.program_file.specs.Listing.{IsProgram, listing}
-use Rattle.program_file.specs.Format.{Spells, written, program_json}
+use Rattle.program_file.specs.Format.{SpellsProgram, written, program_json}
 use Rattle.json_fields.proofs.WrittenTokens.{written_text}
-use Rattle.program_file.proofs.Spelling.{reading-Spells}
-use Rattle.program_file.proofs.WrittenPrograms.{Spells-written}
+use Rattle.program_file.proofs.Spelling.{reading-SpellsProgram}
+use Rattle.program_file.proofs.WrittenPrograms.{SpellsProgram-written}
 use Rattle.program_file.proofs.writing.write.Goals as goal
 
 pub returns-clause-written : goal.returns-clause-written
@@ -20,7 +20,7 @@ returns-clause-spells c =
     let text : c.into_inner.result.items ≡ written p =
     written_text c.new-out.result c.write_program.new.out (program_json p) c.into_inner.result.items c.new-out.ensures.tokens
     (c.new-out.ensures.before ∙ c.in_ok-with_capacity.ensures.items) c.in_ok-write_program.ensures c.into_inner.ensures.items in
-    subst (λ bytes. Spells bytes p) (sym text) (Spells-written p kept)
+    subst (λ bytes. SpellsProgram bytes p) (sym text) (SpellsProgram-written p kept)
 
 pub returns-clause-read_back : goal.returns-clause-read_back
-returns-clause-read_back c = reading-Spells c.into_inner.result.items (listing c.args.program.now) (returns-clause-spells c)
+returns-clause-read_back c = reading-SpellsProgram c.into_inner.result.items (listing c.args.program.now) (returns-clause-spells c)

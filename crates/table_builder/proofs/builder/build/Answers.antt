@@ -2,6 +2,7 @@ use Rattle.std.proofs.Common.{◌≡◌, ◌∙◌, map, length, Some, None, Ok,
 use Rattle.std.specs.Prelude.{IfSome}
 use Rattle.std.proofs.lemmas.List.{length-map}
 use Rattle.casm_word.specs.Transition.{registers}
+use Rattle.cpu_rows.specs.Columns.{numbers}
 use Rattle.trace_files.specs.MemoryFile.{memory_of, as_cells}
 use Rattle.trace_files.specs.CellList.{listed}
 use Rattle.program_file.specs.declared.Program.{Program}
@@ -10,7 +11,6 @@ use Rattle.public_input.specs.Statement.{statement}
 use Rattle.table_file.specs.Tables.{Contents, contents}
 use Rattle.constraint_checker.proofs.Acceptances.{accepted_exactly}
 use Rattle.table_builder.specs.Rows.{rows_of, range_rows_of}
-use Rattle.table_builder.specs.Columns.{numbers}
 use Rattle.table_builder.specs.Findings.{finding_of, first_found, limit_findings, width_finding}
 use Rattle.table_builder.specs.Building.{building}
 use Rattle.table_builder.proofs.Accepted.{built_valid, built_meets}

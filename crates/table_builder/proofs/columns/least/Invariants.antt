@@ -1,5 +1,5 @@
 use Rattle.std.proofs.Common.{◌≡◌, min, fold, take}
-use Rattle.table_builder.specs.Columns.{numbers}
+use Rattle.cpu_rows.specs.Columns.{numbers}
 use Rattle.table_builder.proofs.columns.least.Given as goal
 
 abbrev pub invariant-loop-value : goal.invariant-loop-value

@@ -1,13 +1,13 @@
 use Rattle.std.proofs.Common.{◌≡◌, ◌∙◌, List, subst, ap, None}
 use Rattle.std.specs.Prelude.{◌++◌}
 use Rattle.goldilocks.specs.declared.Felt.{Felt}
+use Rattle.cpu_rows.specs.Columns.{numbers}
 use Rattle.sorted_lists.specs.Order.{in_order}
 use Rattle.range_columns.specs.Equations.{felt_cmp}
 use Rattle.range_columns.specs.Filling.{absent_values}
 use Rattle.public_input.specs.Statement.{statement}
 use Rattle.table_file.specs.Tables.{contents}
 use Rattle.constraint_checker.specs.Lists.{range_values}
-use Rattle.table_builder.specs.Columns.{numbers}
 use Rattle.table_builder.specs.Findings.{first_found, limit_findings}
 use Rattle.table_builder.proofs.Filled.{small_within}
 use Rattle.table_builder.proofs.Limits.{limits_hold}

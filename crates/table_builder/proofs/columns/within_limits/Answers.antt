@@ -1,7 +1,7 @@
 use Rattle.std.proofs.Common.{◌∙◌, Some, sym, ap, arith}
+use Rattle.cpu_rows.specs.Columns.{numbers}
 use Rattle.public_input.specs.Statement.{statement}
 use Rattle.table_builder.specs.declared.faults.Field.TheVariants.{RcMin, RcMax}
-use Rattle.table_builder.specs.Columns.{numbers}
 use Rattle.table_builder.specs.Findings.{Mismatch}
 use Rattle.table_builder.proofs.Limits.{least-low, greatest-low, below_limit, above_limit, within_limits}
 use Rattle.table_builder.proofs.columns.within_limits.Goals as goal

@@ -1,7 +1,7 @@
 use Rattle.std.proofs.Common.{◌≡◌, ◌++◌, ◌∷◌, [], ◌+◌, take, arith, sym, ◌∙◌, set}
 use Rattle.std.proofs.Math.ListN.{length-set}
 use Rattle.std.proofs.lemmas.List.{take_all, take_more_set}
-use Rattle.table_file.specs.Reading.{felts_in, felt_in}
+use Rattle.table_file.specs.Reading.{values_of_bytes, value_of_bytes}
 use Rattle.table_file.proofs.ItemLists.{items_more, items_all, room_more}
 use Rattle.table_file.proofs.items.read_values.Goals as goal
 
@@ -10,7 +10,7 @@ loop-i-preserved g c =
     let rest = c.loop-i.rest.now in
     let i = c.loop-i.i in
     let values = c.loop-i.values in
-    let more = items_more 8 felt_in (felts_in g.row.N c.args.bytes.now) (take i values) g.row.N i rest c.loop-i-test.true c.loop-i.invariant.read in
+    let more = items_more 8 value_of_bytes (values_of_bytes g.row.N c.args.bytes.now) (take i values) g.row.N i rest c.loop-i-test.true c.loop-i.invariant.read in
     let room = room_more 8 g.row.N i rest c.loop-i-test.true c.loop-i.invariant.room in
     let written : take (i + 1) (set values i c.read.result) ≡ take i values ++ c.read.result ∷ [] = take_more_set values i c.read.result (omega (arith, c.loop-i.invariant.whole)) in
     let read = c.read.ensures in
@@ -26,4 +26,4 @@ pub returns : goal.returns
 returns g c =
     let values = c.loop-i.values in
     sym (take_all c.loop-i.i values (omega (arith, c.loop-i.invariant.whole)))
-    ∙ items_all 8 felt_in (felts_in g.row.N c.args.bytes.now) (take c.loop-i.i values) g.row.N c.loop-i.i c.loop-i.rest.now c.loop-i-test.false c.loop-i.invariant.read
+    ∙ items_all 8 value_of_bytes (values_of_bytes g.row.N c.args.bytes.now) (take c.loop-i.i values) g.row.N c.loop-i.i c.loop-i.rest.now c.loop-i-test.false c.loop-i.invariant.read

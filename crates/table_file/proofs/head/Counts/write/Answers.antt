@@ -1,5 +1,5 @@
 use Rattle.std.proofs.Common.{◌++◌, refl, arith, rules, ap, ◌∙◌}
-use Rattle.table_file.specs.FileNumbers.{number_bytes}
+use Rattle.goldilocks.specs.FileNumbers.{number_bytes}
 use Rattle.table_file.specs.Parts.{counts_of}
 use Rattle.table_file.proofs.ItemLists.{numbers_more}
 use Rattle.table_file.proofs.head.Counts.write.Goals as goal

@@ -1,10 +1,10 @@
 use Rattle.std.proofs.Common.{◌≡◌, length, rules, ap, ◌∙◌}
 use Rattle.cpu_rows.specs.Columns.{numbers}
-use Rattle.table_file.proofs.Spelled.{row_in-values}
+use Rattle.table_file.proofs.Spelled.{row_of_bytes-values}
 use Rattle.table_file.proofs.items.RowItem.read.Goals as goal
 
 pub returns : goal.returns
 returns c =
     let row = c.of_values.result in
     let sixteen : length row.tilde ≡ 16 = search rules in
-    row_in-values row c.args.bytes.now sixteen (c.of_values.ensures ∙ ap numbers c.read_values.ensures)
+    row_of_bytes-values row c.args.bytes.now sixteen (c.of_values.ensures ∙ ap numbers c.read_values.ensures)

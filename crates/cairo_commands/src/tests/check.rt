@@ -1,5 +1,6 @@
 //! `check`: tables from outside, the constraint that refuses them, and files that spell nothing.
 
+use super::one_return::check_unknown;
 use super::vectors::{
     ADDRESSES_WRAP, BOTH_RES_FLAGS, BOTH_RES_FLAGS_PROGRAM, BOTH_RES_FLAGS_PUBLIC, FOUR_STEPS,
     FOUR_STEPS_PROGRAM, FOUR_STEPS_PUBLIC, JUMP_NOT_TAKEN, JUMP_NOT_TAKEN_PROGRAM,
@@ -7,9 +8,8 @@ use super::vectors::{
     OUTPUT_CELL, OUTPUT_CELL_PROGRAM, OUTPUT_CELL_PUBLIC, Part, RANGE_CELL, RANGE_CELL_PROGRAM,
     RANGE_CELL_PUBLIC, wide_bytes,
 };
-use super::{bytes_of, check, store_of, words_of};
+use super::{bytes_of, check_call, status_of, store_of, with_number};
 use crate::Status::{self, Done, Input, Limit, Missing, Refused, Sink, Store as StoreFault};
-use crate::perform;
 use file_port::MemorySink;
 use goldilocks::PRIME;
 use std::alloc::{AllocError, Global};
@@ -19,7 +19,7 @@ use std::test::Fail;
 const CHECK: &[&str] = &["check", "P", "U", "T"];
 
 /// A change of a tables file.
-#[derive(Clone, Copy)]
+#[derive(Clone, Copy, Debug)]
 enum Change {
     None,
     /// Only so many bytes are left.
@@ -36,44 +36,60 @@ enum Change {
 
 use Change::{Byte, Cut, Longer, Number};
 
-/// The bytes of tables with these numbers, after a change.
-fn tables_bytes(alloc: Global, numbers: &[u64], change: Change) -> Result<Vec<u8>, AllocError> {
+/// The tables file of these numbers.
+fn tables_file(alloc: Global, numbers: &[u64]) -> Result<Vec<u8>, AllocError> {
     let mut bytes = Vec::from_slice(alloc, b"CAIROGT1")?;
     let numbers = bytes_of(alloc, numbers)?;
     bytes.extend_from_slice(&numbers)?;
+    Ok(bytes)
+}
+
+/// The tables of the four steps with the range row of [`Change::RangeRow`].
+fn with_range_row(alloc: Global) -> Result<Vec<u8>, AllocError> {
+    let parts = [
+        Part::Numbers(&[4, 1, 0, 27, 0]),
+        Part::Numbers(FOUR_STEPS.get(5..140).unwrap_or(&[])),
+        Part::Numbers(&[1, 0, 0, 0]),
+        Part::Numbers(FOUR_STEPS.get(140..).unwrap_or(&[])),
+        Part::Numbers(&[0, 0, 0]),
+    ];
+    wide_bytes(alloc, &parts)
+}
+
+/// Changes bytes, where the change is one of bytes.
+fn change_bytes(bytes: &mut Vec<u8>, change: Change) -> Result<(), AllocError> {
     match change {
-        Change::None => {}
         Cut(length) => bytes.truncate(length),
         Longer => bytes.push(0)?,
-        Change::RangeRow => {
-            let mut changed = Vec::from_slice(alloc, b"CAIROGT1")?;
-            let counts = bytes_of(alloc, &[4, 1, 0, 27, 0])?;
-            changed.extend_from_slice(&counts)?;
-            changed.extend_from_slice(bytes.get(48..1128).unwrap_or(&[]))?;
-            let row = bytes_of(alloc, &[1, 0, 0, 0])?;
-            changed.extend_from_slice(&row)?;
-            changed.extend_from_slice(bytes.get(1128..).unwrap_or(&[]))?;
-            changed.extend_from_slice(&[0; 24])?;
-            bytes = changed;
-        }
         Byte(place) => {
             if let Some(byte) = bytes.get_mut(place) {
                 *byte ^= 1;
             }
         }
-        Number(place, number) => {
-            for (k, byte) in number.to_le_bytes().iter().enumerate() {
-                if let Some(old) = bytes.get_mut(8 * place.min(1000) + 8 + k.min(7)) {
-                    *old = *byte;
-                }
-            }
-        }
+        _ => {}
     }
-    Ok(bytes)
+    Ok(())
 }
 
-/// A program, a public input, the numbers of tables, a change of these, and what is answered.
+/// The bytes of tables with these numbers, after a change.
+fn tables_bytes(alloc: Global, numbers: &[u64], change: Change) -> Result<Vec<u8>, AllocError> {
+    match change {
+        Change::RangeRow => with_range_row(alloc),
+        Number(place, number) => {
+            let numbers = with_number(alloc, numbers, place, number)?;
+            tables_file(alloc, &numbers)
+        }
+        _ => {
+            let mut bytes = tables_file(alloc, numbers)?;
+            change_bytes(&mut bytes, change)?;
+            Ok(bytes)
+        }
+    }
+}
+
+/// A row's name, a program, a public input, the numbers of tables, a change of these, and what is answered.
 type Checked = (
+    &'static str,
     &'static str,
     &'static str,
     &'static [u64],
@@ -127,6 +143,7 @@ const NO_ROWS: &[u64] = &[0, 0, 0, 0, 0, 1, 12, 12];
 
 const VERDICTS: &[Checked] = &[
     (
+        "four steps",
         FOUR_STEPS_PROGRAM,
         FOUR_STEPS_PUBLIC,
         FOUR_STEPS,
@@ -135,6 +152,7 @@ const VERDICTS: &[Checked] = &[
         "check: accepted, 4 steps\n",
     ),
     (
+        "a jump that is taken",
         JUMP_TAKEN_PROGRAM,
         JUMP_TAKEN_PUBLIC,
         JUMP_TAKEN,
@@ -143,6 +161,7 @@ const VERDICTS: &[Checked] = &[
         "check: accepted, 2 steps\n",
     ),
     (
+        "a jump that isn't taken",
         JUMP_NOT_TAKEN_PROGRAM,
         JUMP_NOT_TAKEN_PUBLIC,
         JUMP_NOT_TAKEN,
@@ -151,6 +170,7 @@ const VERDICTS: &[Checked] = &[
         "check: accepted, 2 steps\n",
     ),
     (
+        "an output cell",
         OUTPUT_CELL_PROGRAM,
         OUTPUT_CELL_PUBLIC,
         OUTPUT_CELL,
@@ -159,6 +179,7 @@ const VERDICTS: &[Checked] = &[
         "check: accepted, 4 steps\n",
     ),
     (
+        "addresses that wrap",
         FOUR_STEPS_PROGRAM,
         FOUR_STEPS_PUBLIC,
         ADDRESSES_WRAP,
@@ -166,8 +187,8 @@ const VERDICTS: &[Checked] = &[
         Done,
         "check: accepted, 4 steps\n",
     ),
-    // t1 in row 1 is 2
     (
+        "t1 in row 1 is 2",
         JUMP_TAKEN_PROGRAM,
         JUMP_TAKEN_PUBLIC,
         JUMP_TAKEN,
@@ -176,6 +197,7 @@ const VERDICTS: &[Checked] = &[
         "check: refused: C24 row 1\n",
     ),
     (
+        "another public cell",
         FOUR_STEPS_PROGRAM,
         CELL_ADDED,
         FOUR_STEPS,
@@ -183,8 +205,8 @@ const VERDICTS: &[Checked] = &[
         Refused,
         "check: refused: M3 row 22\n",
     ),
-    // t1 in row 1 is 1, and the public cell is wrong, too
     (
+        "t1 in row 1 is 1, and another public cell",
         FOUR_STEPS_PROGRAM,
         CELL_ADDED,
         FOUR_STEPS,
@@ -193,6 +215,7 @@ const VERDICTS: &[Checked] = &[
         "check: refused: C24 row 1\n",
     ),
     (
+        "both flags of res",
         BOTH_RES_FLAGS_PROGRAM,
         BOTH_RES_FLAGS_PUBLIC,
         BOTH_RES_FLAGS,
@@ -200,8 +223,8 @@ const VERDICTS: &[Checked] = &[
         Refused,
         "check: refused: C33 row 0\n",
     ),
-    // the last pc is 6
     (
+        "another end, and the last pc is 6",
         END_5,
         FOUR_STEPS_PUBLIC,
         FOUR_STEPS,
@@ -210,6 +233,7 @@ const VERDICTS: &[Checked] = &[
         "check: refused: C26 row 3\n",
     ),
     (
+        "another end",
         END_5,
         FOUR_STEPS_PUBLIC,
         FOUR_STEPS,
@@ -218,6 +242,7 @@ const VERDICTS: &[Checked] = &[
         "check: refused: P6 row 4\n",
     ),
     (
+        "five steps are stated",
         FOUR_STEPS_PROGRAM,
         FIVE_STEPS,
         FOUR_STEPS,
@@ -226,6 +251,7 @@ const VERDICTS: &[Checked] = &[
         "check: refused: P1 row 0\n",
     ),
     (
+        "tables without rows",
         FOUR_STEPS_PROGRAM,
         FOUR_STEPS_PUBLIC,
         NO_ROWS,
@@ -233,8 +259,8 @@ const VERDICTS: &[Checked] = &[
         Refused,
         "check: refused: P1 row 0\n",
     ),
-    // the last sorted range value is 32768
     (
+        "the last sorted range value is 32768",
         FOUR_STEPS_PROGRAM,
         FOUR_STEPS_PUBLIC,
         FOUR_STEPS,
@@ -243,6 +269,7 @@ const VERDICTS: &[Checked] = &[
         "check: refused: Q2 row 10\n",
     ),
     (
+        "a range cell is stated",
         FOUR_STEPS_PROGRAM,
         ONE_RANGE_CELL,
         FOUR_STEPS,
@@ -251,6 +278,7 @@ const VERDICTS: &[Checked] = &[
         "check: refused: P2 row 0\n",
     ),
     (
+        "another start",
         START_1,
         FOUR_STEPS_PUBLIC,
         FOUR_STEPS,
@@ -259,6 +287,7 @@ const VERDICTS: &[Checked] = &[
         "check: refused: P3 row 0\n",
     ),
     (
+        "another first ap",
         FOUR_STEPS_PROGRAM,
         FIRST_AP_13,
         FOUR_STEPS,
@@ -266,8 +295,8 @@ const VERDICTS: &[Checked] = &[
         Refused,
         "check: refused: P4 row 0\n",
     ),
-    // fp in row 0 is 13
     (
+        "fp in row 0 is 13",
         FOUR_STEPS_PROGRAM,
         FOUR_STEPS_PUBLIC,
         FOUR_STEPS,
@@ -276,6 +305,7 @@ const VERDICTS: &[Checked] = &[
         "check: refused: P5 row 0\n",
     ),
     (
+        "another last ap",
         FOUR_STEPS_PROGRAM,
         LAST_AP_16,
         FOUR_STEPS,
@@ -283,8 +313,8 @@ const VERDICTS: &[Checked] = &[
         Refused,
         "check: refused: P7 row 4\n",
     ),
-    // a range row of 1 whose limbs are 0
     (
+        "a range row of 1 whose limbs are 0",
         FOUR_STEPS_PROGRAM,
         ONE_RANGE_CELL,
         FOUR_STEPS,
@@ -292,8 +322,8 @@ const VERDICTS: &[Checked] = &[
         Refused,
         "check: refused: V1 row 0\n",
     ),
-    // the last sorted address is 20, the second sorted value is 0
     (
+        "the last sorted address is 20",
         FOUR_STEPS_PROGRAM,
         FOUR_STEPS_PUBLIC,
         FOUR_STEPS,
@@ -302,6 +332,7 @@ const VERDICTS: &[Checked] = &[
         "check: refused: M1 row 25\n",
     ),
     (
+        "the second sorted value is 0",
         FOUR_STEPS_PROGRAM,
         FOUR_STEPS_PUBLIC,
         FOUR_STEPS,
@@ -310,6 +341,7 @@ const VERDICTS: &[Checked] = &[
         "check: refused: M2 row 0\n",
     ),
     (
+        "a lower bound of the range values",
         FOUR_STEPS_PROGRAM,
         LOWER_BOUND,
         FOUR_STEPS,
@@ -318,6 +350,7 @@ const VERDICTS: &[Checked] = &[
         "check: refused: Q1 row 0\n",
     ),
     (
+        "a greater bound of the range values",
         FOUR_STEPS_PROGRAM,
         UPPER_BOUND,
         FOUR_STEPS,
@@ -325,8 +358,8 @@ const VERDICTS: &[Checked] = &[
         Refused,
         "check: refused: Q3 row 11\n",
     ),
-    // the first sorted 32768 is 32767
     (
+        "the first sorted 32768 is 32767",
         FOUR_STEPS_PROGRAM,
         FOUR_STEPS_PUBLIC,
         FOUR_STEPS,
@@ -499,13 +532,13 @@ fn check_public(
 ) -> Result<(), AllocError> {
     let files = [("P", FOUR_STEPS_PROGRAM.as_bytes()), ("U", public)];
     let mut store = store_of(alloc, &files, &[])?;
-    check(rt, alloc, row, CHECK, &mut store, wanted)
+    check_call(rt, alloc, row, CHECK, &mut store, wanted)
 }
 
 #[test]
 fn tables_have_their_verdict(rt: HostRuntime) -> Result<(), Fail> {
     let alloc = rt.alloc();
-    for (program, public, numbers, change, status, line) in VERDICTS {
+    for (row, program, public, numbers, change, status, line) in VERDICTS {
         let tables = tables_bytes(alloc, numbers, *change)?;
         let files: [(&str, &[u8]); 3] = [
             ("P", program.as_bytes()),
@@ -513,7 +546,7 @@ fn tables_have_their_verdict(rt: HostRuntime) -> Result<(), Fail> {
             ("T", &tables),
         ];
         let mut store = store_of(alloc, &files, &[])?;
-        check(&rt, alloc, line, CHECK, &mut store, (*status, line))?;
+        check_call(&rt, alloc, row, CHECK, &mut store, (*status, line))?;
     }
     Ok(())
 }
@@ -529,7 +562,7 @@ fn wide_tables_have_their_verdict(rt: HostRuntime) -> Result<(), Fail> {
             ("T", &tables),
         ];
         let mut store = store_of(alloc, &files, &[])?;
-        check(&rt, alloc, line, CHECK, &mut store, (*status, line))?;
+        check_call(&rt, alloc, line, CHECK, &mut store, (*status, line))?;
     }
     Ok(())
 }
@@ -545,13 +578,15 @@ fn files_that_are_none_are_told(rt: HostRuntime) -> Result<(), Fail> {
             ("T", &tables),
         ];
         let mut store = store_of(alloc, &files, &[])?;
-        check(&rt, alloc, line, CHECK, &mut store, (*status, line))?;
+        let row = format!(in alloc; "{change:?}")?;
+        check_call(&rt, alloc, &row, CHECK, &mut store, (*status, line))?;
     }
     for (program, public, status, line) in NO_INPUTS {
         // No tables are there, which is not looked at.
         let files: [(&str, &[u8]); 2] = [("P", program.as_bytes()), ("U", public.as_bytes())];
         let mut store = store_of(alloc, &files, &[])?;
-        check(&rt, alloc, line, CHECK, &mut store, (*status, line))?;
+        let row = format!(in alloc; "{program} and {public}")?;
+        check_call(&rt, alloc, &row, CHECK, &mut store, (*status, line))?;
     }
     Ok(())
 }
@@ -575,6 +610,13 @@ fn faults_of_a_public_input_are_told(rt: HostRuntime) -> Result<(), Fail> {
     Ok(())
 }
 
+/// Words that are no form of `check`.
+const UNKNOWN: &[&[&str]] = &[
+    &["check", "P", "U"],
+    &["check", "P", "U", ""],
+    &["check", "P", "U", "T", "--workers", "2"],
+];
+
 /// Which files are there, which calls of the store fail, and what is answered.
 const FAULTS: &[(&[&str], &[u32], Status, &str)] = &[
     (&["U", "T"], &[], Missing, "missing: input 1\n"),
@@ -596,15 +638,16 @@ fn file_of(alloc: Global, name: &str) -> Result<Vec<u8>, AllocError> {
 }
 
 #[test]
-fn faults_of_a_check_are_told(rt: HostRuntime) -> Result<(), Fail> {
+fn other_words_and_faults_are_told(rt: HostRuntime) -> Result<(), Fail> {
     let alloc = rt.alloc();
+    check_unknown(&rt, alloc, UNKNOWN)?;
     for (names, fails, status, line) in FAULTS {
         let mut files = Vec::new(alloc);
         for name in *names {
             files.push((String::from_str(alloc, name)?, file_of(alloc, name)?))?;
         }
         let mut store = file_port::MemoryStore::new(files, Vec::from_slice(alloc, fails)?);
-        check(&rt, alloc, line, CHECK, &mut store, (*status, line))?;
+        check_call(&rt, alloc, line, CHECK, &mut store, (*status, line))?;
     }
     let tables = tables_bytes(alloc, FOUR_STEPS, Change::None)?;
     let files: [(&str, &[u8]); 3] = [
@@ -613,9 +656,8 @@ fn faults_of_a_check_are_told(rt: HostRuntime) -> Result<(), Fail> {
         ("T", &tables),
     ];
     let mut store = store_of(alloc, &files, &[])?;
-    let words = words_of(alloc, CHECK)?;
     let mut sink = MemorySink::new(alloc, Vec::from_slice(alloc, &[1])?);
-    assert_eq!(rt; perform(alloc, &words, &mut store, &mut sink), Sink);
+    assert_eq!(rt; status_of(alloc, CHECK, &mut store, &mut sink)?, Sink);
     assert_eq!(rt; sink.bytes(), b"".as_slice());
     Ok(())
 }

@@ -6,5 +6,5 @@ use Rattle.goldilocks.specs.Field.{prime}
 use Rattle.goldilocks.specs.declared.Felt.{Felt}
 
 -- The value that a whole number is modulo p. Own.
-unfoldable pub felt : ℕ → Felt
+abbrev pub felt : ℕ → Felt
 felt n = record { number = n % prime; in_field = mod_below n prime (lit< tt) }
