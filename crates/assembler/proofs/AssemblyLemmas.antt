@@ -5,23 +5,23 @@ use Rattle.std.specs.Cmp.Lexicographic.{nat_list_eq_equiv}
 use Rattle.std.proofs.lemmas.Option.{none-some}
 use Rattle.std.proofs.lemmas.List.{length-append, append_assoc, append-nil, map-append, map_more, take-append-drop}
 use Rattle.std.proofs.lemmas.List.Sums.{sum_by-append, sum_by-cons}
+use Rattle.std.specs.Str.{bytes_eq}
 use Rattle.goldilocks.specs.declared.Felt.{Felt}
 use Rattle.goldilocks.specs.Field.{field_sub}
 use Rattle.goldilocks.specs.Felts.{felt}
+use Rattle.goldilocks.proofs.Pairs.{felt-number}
 use Rattle.casm_word.specs.declared.Word.{Word}
 use Rattle.casm_word.specs.Word.{word_number}
+use Rattle.casm_word.specs.Length.{most_words}
 use Rattle.casm_statements.specs.declared.Stmt.{Stmt}
 use Rattle.casm_statements.specs.declared.Body.{Body}
 use Rattle.casm_statements.specs.declared.Body.TheVariants as body
 use Rattle.casm_statements.specs.declared.Item.{Item}
-use Rattle.casm_text.specs.Meaning.{bodies}
 use Rattle.casm_statements.specs.Words.{encoding, with_operand, with_term, with_immediate}
-use Rattle.casm_statements.specs.Label.{same_text}
+use Rattle.casm_text.specs.Meaning.{bodies}
 use Rattle.assembler.specs.StatementWords.{statement_words}
 use Rattle.assembler.specs.Assembly.{body_size, word_count, label_in, label_at, labels_from, labels_of, value_in, label_named, distance_to, body_words, words_from, words_of, first_given, distance}
-use Rattle.assembler.specs.Faults.{most_words}
 use Rattle.assembler.specs.Views.{capped, capped_label}
-use Rattle.assembler.proofs.Begins.{felt-number}
 
 pub word_count-cons : (b : Body) (bs : List Body) → word_count (b ∷ bs) ≡ body_size b + word_count bs
 word_count-cons b bs = sum_by-cons body_size b bs
@@ -122,7 +122,7 @@ labels_held bs h = capped_from 0 bs (omega arith)
 -- a name is among the labels that are held where it is among the labels
 pub value_in-capped : (n : List ℕ) (labels : List (List ℕ × ℕ)) → is_some (value_in (map capped_label labels) n) ≡ is_some (value_in labels n)
 value_in-capped n [] = refl
-value_in-capped n (l ∷ ls) = by (same_text n l.0) (value_in-capped n ls)
+value_in-capped n (l ∷ ls) = by (bytes_eq n l.0) (value_in-capped n ls)
   where
     by : (b : Bool) → is_some (value_in (map capped_label ls) n) ≡ is_some (value_in ls n) → is_some (cond b (Some (capped l.1)) (value_in (map capped_label ls) n)) ≡ is_some (cond b (Some l.1) (value_in ls n))
     by true e = refl
@@ -201,9 +201,9 @@ labels_from-append place (x ∷ xs) ys =
 
 value_in-behind : (n : List ℕ) (xs ys : List (List ℕ × ℕ)) → value_in xs n ≡ None → value_in (xs ++ ys) n ≡ value_in ys n
 value_in-behind n [] ys h = refl
-value_in-behind n (x ∷ xs) ys h = by (same_text n x.0) refl (value_in-behind n xs ys)
+value_in-behind n (x ∷ xs) ys h = by (bytes_eq n x.0) refl (value_in-behind n xs ys)
   where
-    by : (b : Bool) → same_text n x.0 ≡ b → (value_in xs n ≡ None → value_in (xs ++ ys) n ≡ value_in ys n) → cond (same_text n x.0) (Some x.1) (value_in (xs ++ ys) n) ≡ value_in ys n
+    by : (b : Bool) → bytes_eq n x.0 ≡ b → (value_in xs n ≡ None → value_in (xs ++ ys) n ≡ value_in ys n) → cond (bytes_eq n x.0) (Some x.1) (value_in (xs ++ ys) n) ≡ value_in ys n
     by true e more = absurd (none-some x.1 (sym h ∙ ap (λ (c : Bool). cond c (Some x.1) (value_in xs n)) e))
     by false e more =
         ap (λ (c : Bool). cond c (Some x.1) (value_in (xs ++ ys) n)) e

@@ -4,14 +4,14 @@ use Rattle.std.specs.Bool.{if◌then◌else◌}
 use Rattle.std.specs.Prelude.{FitsSigned}
 use Rattle.std.specs.Option.{option_to_list}
 use Rattle.std.specs.Ordering.{int_eq}
-use Rattle.std.proofs.Math.Nat.{mod-eq_of_lt, mod-lt}
+use Rattle.std.proofs.Math.Nat.{mod-lt}
 use Rattle.std.proofs.lemmas.Bool.{cases_Bool, cases_eq, cases_lt, false≢true, true≢false}
 use Rattle.std.proofs.lemmas.Bool.Decides.{nat_tests, Decides-int_eq}
 use Rattle.std.proofs.lemmas.Int.{ints}
 use Rattle.goldilocks.specs.Field.{prime}
 use Rattle.goldilocks.specs.declared.Felt.{Felt}
 use Rattle.goldilocks.specs.Felts.{felt}
-use Rattle.goldilocks.proofs.Pairs.{same_felt}
+use Rattle.goldilocks.proofs.Pairs.{same_felt, felt-number, number-felt}
 use Rattle.casm_word.specs.declared.Word.{Word}
 use Rattle.casm_word.specs.declared.Flags.{Flags}
 use Rattle.casm_word.specs.declared.Shape.{Shape}
@@ -25,13 +25,6 @@ use Rattle.casm_statements.specs.Guesses.{stmt_in, flag_list}
 use Rattle.casm_statements.proofs.Guesses.{stmt_is, only_stmt, same_flags}
 use Rattle.assembler.specs.StatementWords.{statement_words, HasOffsets, BeginsWith, BeginsWithNone}
 use Rattle.assembler.proofs.DefinedWords.{is_defined, has_immediate}
-
--- a value of the field is that of its number
-pub felt-number : (v : Felt) → felt v.number ≡ v
-felt-number v = same_felt (felt v.number) v (mod-eq_of_lt v.in_field)
-
-number-felt : (n : ℕ) → n < prime → (felt n).number ≡ n
-number-felt n h = mod-eq_of_lt h
 
 -- what a number that decodes is
 decoded_low : (b : Bool) (o : Option Shape) (x w : Word) → (if b then unless_broken o x else Err HighBit) ≡ Ok w → b ≡ true

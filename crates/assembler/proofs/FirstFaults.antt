@@ -1,12 +1,13 @@
 -- The first fault of items, and items that have none.
 use Rattle.std.proofs.Common.{◌≡◌, ℕ, ◌<◌, ◌≤◌, List, find, Some, None, sym, ◌∙◌, subst, arith}
 use Rattle.std.proofs.lemmas.Option.{none-some}
+use Rattle.casm_word.specs.Length.{most_words}
 use Rattle.casm_statements.specs.declared.Item.{Item}
 use Rattle.casm_text.specs.Meaning.{bodies}
 use Rattle.assembler.specs.declared.fault.AsmFault.{AsmFault}
 use Rattle.assembler.specs.declared.fault.AsmFault.TheVariants.{Duplicate, TooLong, Unknown, NoEnd, StartOutside, EndOutside, Memory}
 use Rattle.assembler.specs.Assembly.{word_count, labels_of, first_given, start_in, end_in, target_place, start_place, end_place}
-use Rattle.assembler.specs.Faults.{most_words, RepeatsAt, unknown_in, HasAsmFault, rank, HasNoFault, IsFirstFault, TellsFault}
+use Rattle.assembler.specs.Faults.{RepeatsAt, unknown_in, HasAsmFault, rank, HasNoFault, IsFirstFault, TellsFault}
 use Rattle.assembler.specs.Views.{TellsFirstRepeat, TellsFirstUnknown, TellsPlace}
 use Rattle.assembler.proofs.Unknowns.{names_unknown}
 

@@ -2,13 +2,14 @@
 use Rattle.std.proofs.Common.{◌≡◌, ℕ, ◌<◌, ◌≤◌, Bool, true, false, List, [], ◌∷◌, take, find, slice_get, Option, Some, None, is_some, refl, sym, ◌∙◌, ap, subst, cond}
 use Rattle.std.specs.Option.{option_map}
 use Rattle.std.proofs.lemmas.Option.{slice_get-map, none-some, same_Some}
+use Rattle.goldilocks.specs.declared.Felt.{Felt}
+use Rattle.casm_word.specs.Length.{most_words}
 use Rattle.casm_statements.specs.declared.Body.{Body}
 use Rattle.casm_statements.specs.declared.Item.{Item}
 use Rattle.casm_text.specs.Meaning.{bodies}
-use Rattle.goldilocks.specs.declared.Felt.{Felt}
 use Rattle.assembler.specs.declared.fault.AsmFault.TheVariants.{Duplicate, TooLong, Unknown, NoEnd, StartOutside, EndOutside, Memory}
 use Rattle.assembler.specs.Assembly.{word_count, labels_of, words_of, first_given, end_in, start_place, end_place, builtins_of}
-use Rattle.assembler.specs.Faults.{is_given_again, RepeatsAt, unknown_in, HasNoFault, most_words}
+use Rattle.assembler.specs.Faults.{is_given_again, RepeatsAt, unknown_in, HasNoFault}
 use Rattle.assembler.specs.Disassembly.{AssemblesTo}
 use Rattle.assembler.proofs.Unknowns.{names_unknown}
 

@@ -5,6 +5,7 @@ use Rattle.std.specs.Option.{option_or, option_map, option_and_then}
 use Rattle.std.proofs.lemmas.Bool.{cases_lt, false≢true, ltb-true, ltb-false, leb-true, leb-false}
 use Rattle.std.proofs.lemmas.Option.{none-some, same_Some}
 use Rattle.goldilocks.specs.declared.Felt.{Felt}
+use Rattle.casm_word.specs.Length.{most_words}
 use Rattle.casm_statements.specs.declared.Body.{Body}
 use Rattle.casm_statements.specs.declared.Item.{Item}
 use Rattle.casm_text.specs.Meaning.{bodies}
@@ -12,7 +13,7 @@ use Rattle.assembler.specs.declared.Assembled.{Assembled}
 use Rattle.assembler.specs.declared.fault.AsmFault.{AsmFault}
 use Rattle.assembler.specs.declared.fault.AsmFault.TheVariants.{Duplicate, TooLong, Unknown, NoEnd, StartOutside, EndOutside, Memory}
 use Rattle.assembler.specs.Assembly.{word_count, labels_of, words_of, first_given, end_in, start_place, end_place, builtins_of}
-use Rattle.assembler.specs.Faults.{most_words, is_given_again, RepeatsAt, IsFirstRepeat, unknown_in, IsFirstUnknown, HasAsmFault, rank, HasNoFault, IsFirstFault, TellsFault}
+use Rattle.assembler.specs.Faults.{is_given_again, RepeatsAt, IsFirstRepeat, unknown_in, IsFirstUnknown, HasAsmFault, rank, HasNoFault, IsFirstFault, TellsFault}
 use Rattle.assembler.specs.Assembling.{Assembly, assembly_of, seen_assembly, first_repeat, unknown_fault, first_unknown, first_fault, unless_fault, assembling}
 use Rattle.assembler.proofs.Unknowns.{names_unknown}
 use Rattle.assembler.proofs.FirstFaults.{none_before, sound_has_none, length_told}

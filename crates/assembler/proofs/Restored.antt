@@ -6,6 +6,7 @@ use Rattle.std.specs.Option.{option_or, option_map}
 use Rattle.std.proofs.lemmas.Bool.{false≢true}
 use Rattle.std.proofs.lemmas.Option.{slice_get-map, none-some}
 use Rattle.goldilocks.specs.declared.Felt.{Felt}
+use Rattle.casm_word.specs.Length.{most_words}
 use Rattle.casm_statements.specs.declared.Target.TheVariants.{Number}
 use Rattle.casm_statements.specs.declared.Body.{Body}
 use Rattle.casm_statements.specs.declared.Body.TheVariants as body
@@ -14,7 +15,7 @@ use Rattle.casm_text.specs.Meaning.{item_on, bodies}
 use Rattle.assembler.specs.StatementWords.{statement_words}
 use Rattle.assembler.specs.Shown.{Shown}
 use Rattle.assembler.specs.Assembly.{word_count, labels_from, labels_of, label_named, words_from, words_of, first_given, start_in, end_in, builtins_in, target_place, start_place, end_place, builtins_of}
-use Rattle.assembler.specs.Faults.{most_words, is_given_again, RepeatsAt}
+use Rattle.assembler.specs.Faults.{is_given_again, RepeatsAt}
 use Rattle.assembler.specs.Disassembly.{on_lines, Disassembles, AssemblesTo}
 use Rattle.assembler.proofs.AssemblyLemmas.{words_from-length}
 use Rattle.assembler.proofs.Unknowns.{names_unknown}

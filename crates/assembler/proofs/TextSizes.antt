@@ -10,6 +10,7 @@ use Rattle.std.proofs.lemmas.List.{length-append}
 use Rattle.goldilocks.specs.Field.{prime}
 use Rattle.goldilocks.specs.declared.Felt.{Felt}
 use Rattle.casm_word.specs.declared.Word.{Word}
+use Rattle.casm_word.specs.Length.{most_words}
 use Rattle.casm_statements.specs.declared.Reg.{Reg}
 use Rattle.casm_statements.specs.declared.Reg.TheVariants as reg_is
 use Rattle.casm_statements.specs.declared.Cell.{Cell}
@@ -29,7 +30,6 @@ use Rattle.casm_text.specs.Canonical.{reg_text, offset_text, cell_text, half, nu
 use Rattle.assembler.specs.StatementWords.{HasOffsets}
 use Rattle.assembler.specs.Shown.{Shown}
 use Rattle.assembler.specs.Disassembly.{on_lines, Disassembles}
-use Rattle.assembler.specs.Faults.{most_words}
 use Rattle.assembler.proofs.ShownLemmas.{left_shorter}
 
 -- two texts one after another

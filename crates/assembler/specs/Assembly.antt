@@ -3,6 +3,7 @@
 use Rattle.std.specs.Prelude.{ℕ, ◌+◌, Bool, false, List, [], ◌∷◌, ◌++◌, length, sum_by, Option, Some, None, unwrap_or}
 use Rattle.std.specs.Option.{option_or}
 use Rattle.std.specs.Map.{lookup}
+use Rattle.std.specs.Str.{bytes_eq}
 use Rattle.goldilocks.specs.declared.Felt.{Felt}
 use Rattle.goldilocks.specs.Field.{field_sub}
 use Rattle.goldilocks.specs.Felts.{felt}
@@ -13,7 +14,6 @@ use Rattle.casm_statements.specs.declared.Target.{Target}
 use Rattle.casm_statements.specs.declared.Target.TheVariants.{Number, Name}
 use Rattle.casm_statements.specs.declared.Body.{Body}
 use Rattle.casm_statements.specs.declared.Body.TheVariants as body
-use Rattle.casm_statements.specs.Label.{same_text}
 use Rattle.assembler.specs.StatementWords.{statement_words}
 
 -- How many words a body gives. Own.
@@ -61,7 +61,7 @@ labels_of bs = labels_from 0 bs
 
 -- The value of a name, if it is one of these labels. Own.
 abbrev pub value_in : List (List ℕ × ℕ) → List ℕ → Option ℕ
-value_in labels n = lookup (same_text n) labels
+value_in labels n = lookup (bytes_eq n) labels
 
 -- The label of which a target is the name, if it is one. Own.
 abbrev pub target_name : Target → Option (List ℕ)

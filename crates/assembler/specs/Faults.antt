@@ -1,5 +1,6 @@
 -- Why items can't be assembled: each fault by itself, and the order in which they are told.
-use Rattle.std.specs.Prelude.{◌≡◌, ℕ, ◌<◌, ◌≤◌, ◌^◌, Bool, false, List, take, find, slice_get, Option, Some, None, is_some, IsTrue, if◌then◌else◌}
+use Rattle.std.specs.Prelude.{◌≡◌, ℕ, ◌<◌, ◌≤◌, Bool, false, List, take, find, slice_get, Option, Some, None, is_some, IsTrue, if◌then◌else◌}
+use Rattle.casm_word.specs.Length.{most_words}
 use Rattle.casm_statements.specs.declared.Body.{Body}
 use Rattle.casm_statements.specs.declared.Body.TheVariants as body
 use Rattle.casm_statements.specs.declared.Item.{Item}
@@ -7,10 +8,6 @@ use Rattle.casm_text.specs.Meaning.{bodies}
 use Rattle.assembler.specs.Assembly.{word_count, labels_of, value_in, label_named, first_given, start_in, end_in, builtins_in, start_place, end_place}
 use Rattle.assembler.specs.declared.fault.AsmFault.{AsmFault}
 use Rattle.assembler.specs.declared.fault.AsmFault.TheVariants.{Duplicate, TooLong, Unknown, NoEnd, StartOutside, EndOutside, Memory}
-
--- The most words that a program has. Own.
-abbrev pub most_words : ℕ
-most_words = 2 ^ 18
 
 -- The body is a label that is given among those before it, or a directive of a kind that is. Own.
 abbrev pub is_given_again : List Body → Body → Bool

@@ -12,3 +12,4 @@ pub use Rattle.casm_statements.specs.Words
 pub use Rattle.casm_text.specs.Canonical
 pub use Rattle.casm_text.specs.Meaning
 pub use Rattle.casm_tokens.specs.Limits
+pub use Rattle.casm_word.specs.Length

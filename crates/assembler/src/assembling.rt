@@ -2,23 +2,22 @@
 #![tactic(auto)]
 
 ghost use Rattle.std.specs.Prelude.{◌≡◌, ◌≤◌, ◌<◌, ℕ, List, map, length, None, IfOk, IfErr, OnOk, option_copied};
+ghost use Rattle.casm_word.specs.Length.{most_words};
 ghost use Rattle.casm_statements.specs.declared.Item.{Item};
 ghost use Rattle.casm_statements.specs.declared.Stmt.{Stmt};
 ghost use Rattle.casm_text.specs.Meaning.{bodies};
 ghost use Rattle.assembler.specs.Shown.{Shown, word_bodies};
 ghost use Rattle.assembler.specs.Assembly.{word_count, labels_of, words_of, first_given, start_in, end_in, target_place, start_place, end_place, builtins_of};
-ghost use Rattle.assembler.specs.Faults.{most_words, RepeatsAt, HasNoFault, TellsFault};
+ghost use Rattle.assembler.specs.Faults.{RepeatsAt, HasNoFault, TellsFault};
 ghost use Rattle.assembler.specs.Views.{TellsPlace};
 
 use crate::survey::Survey;
 use crate::words::words_of;
 use crate::{AsmFault, Assembled};
 use casm_text::{Body, Item, Name, Target};
+use casm_word::MOST_WORDS;
 use indexmap::IndexMap;
 use std::alloc::Global;
-
-/// The most words that a program has.
-const MOST_WORDS: u32 = 262144;
 
 /// The program of items: the words of each one after another.
 ///
@@ -78,7 +77,7 @@ fn labels_and_count(alloc: Global, items: &[Item]) -> Result<(IndexMap<Name, u32
     match Survey::of(alloc, items) {
         Ok(survey) => {
             let count = survey.words;
-            if count > MOST_WORDS {
+            if count as usize > MOST_WORDS {
                 return Err(AsmFault::TooLong);
             }
             Ok((survey.labels, count))

@@ -2,10 +2,10 @@
 #![tactic(auto)]
 
 ghost use Rattle.std.specs.Prelude.{◌≡◌, ◌≤◌, ◌<◌, ◌+◌, ◌^◌, ◌++◌, [], ◌∷◌, length, IfOk, OnOk};
+ghost use Rattle.casm_word.specs.Length.{most_words};
 ghost use Rattle.casm_tokens.specs.Limits.{most_bytes};
 ghost use Rattle.casm_text.specs.Canonical.{printed};
 ghost use Rattle.assembler.specs.Disassembly.{builtins_directive, on_lines, Disassembles, AssemblesTo};
-ghost use Rattle.assembler.specs.Faults.{most_words};
 ghost use Rattle.assembler.specs.Views.{ShownBehind};
 
 use crate::reading::first_statement;

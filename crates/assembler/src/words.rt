@@ -3,10 +3,11 @@
 
 ghost use Rattle.std.specs.Prelude.{◌≡◌, ◌≤◌, ◌<◌, ◌++◌, ◌^◌, None, IfOk, IfErr, OnOk, find, is_some, length, option_copied};
 ghost use Rattle.std.specs.List.{AllByRecursion};
+ghost use Rattle.casm_word.specs.Length.{most_words};
 ghost use Rattle.casm_text.specs.Meaning.{bodies};
 ghost use Rattle.assembler.specs.StatementWords.{statement_words, HasOffsets};
 ghost use Rattle.assembler.specs.Assembly.{body_size, body_words, label_named, target_name, distance, distance_to, word_count, words_from};
-ghost use Rattle.assembler.specs.Faults.{most_words, unknown_in};
+ghost use Rattle.assembler.specs.Faults.{unknown_in};
 ghost use Rattle.assembler.specs.Views.{KeepsOffsets, TellsUnknown, TellsFirstUnknown};
 
 use crate::AsmFault;

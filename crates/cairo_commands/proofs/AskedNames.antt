@@ -3,8 +3,9 @@ use Rattle.std.proofs.Common.{◌≡◌, Bool, true, false, cond, List, [], ◌�
 use Rattle.std.specs.Prelude.{codes}
 use Rattle.std.specs.Str.{bytes_eq}
 use Rattle.file_port.specs.Files.{Name}
+use Rattle.call_words.specs.Names.{are_names}
 use Rattle.cairo_commands.specs.Answer.{Input}
-use Rattle.cairo_commands.specs.Request.{Request, Walk, Asm, Dis, Tables, Check, are_names}
+use Rattle.cairo_commands.specs.Request.{Request, Walk, Asm, Dis, Tables, Check}
 use Rattle.cairo_commands.specs.Reply.{request_in, task}
 use Rattle.cairo_commands.specs.Commands.Walk.{walk_request}
 use Rattle.cairo_commands.specs.Commands.Asm.{asm_request}

@@ -11,8 +11,6 @@ pub mod DisTheorem
 pub mod WrittenFiles
 pub mod TablesTheorem
 pub mod CheckTheorem
-pub mod NameLists
-pub mod NumberWords
 pub mod CarryOut
 pub mod Evidence
 pub mod AskedNames

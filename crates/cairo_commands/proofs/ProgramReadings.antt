@@ -3,6 +3,7 @@ use Rattle.std.proofs.Common.{◌≡◌, ℕ, ◌<◌, ◌≤◌, inl, inr, Bool
 use Rattle.std.proofs.Math.Nat.{lt_of_not-le}
 use Rattle.std.proofs.lemmas.Bool.{ltb-true, ltb-false}
 use Rattle.goldilocks.specs.declared.Felt.{Felt}
+use Rattle.casm_word.specs.Length.{most_words}
 use Rattle.casm_statements.specs.declared.Body.{Body}
 use Rattle.casm_statements.specs.declared.Item.{Item}
 use Rattle.casm_tokens.specs.declared.fault.ParseFault.{ParseFault}
@@ -12,7 +13,7 @@ use Rattle.casm_text.proofs.TextReading.{text_reading-faulty}
 use Rattle.assembler.specs.declared.fault.AsmFault.{AsmFault}
 use Rattle.assembler.specs.declared.fault.AsmFault.TheVariants.{TooLong, StartOutside, EndOutside, Memory}
 use Rattle.assembler.specs.Assembly.{words_of, labels_of, start_place, end_place, word_count}
-use Rattle.assembler.specs.Faults.{HasNoFault, TellsFault, most_words}
+use Rattle.assembler.specs.Faults.{HasNoFault, TellsFault}
 use Rattle.assembler.specs.Assembling.{assembly_of}
 use Rattle.assembler.specs.Disassembly.{Disassembles, directives, on_lines}
 use Rattle.assembler.proofs.AssemblyLemmas.{words_from-length}

@@ -6,8 +6,6 @@ use Rattle.std.specs.List.{AllByRecursion, find}
 use Rattle.std.specs.Str.{bytes_eq}
 use Rattle.std.proofs.lemmas.Bool.{not-true, and_parts, or_parts}
 use Rattle.std.proofs.lemmas.List.Elements.{All-from_recursion}
-use Rattle.file_port.specs.Files.{Name, Files}
-use Rattle.file_port.specs.Seen.{Seen, SinkSeen}
 use Rattle.goldilocks.specs.Field.{prime}
 use Rattle.casm_word.specs.Transition.{Registers}
 use Rattle.trace_files.specs.TraceFile.{IsState}
@@ -23,10 +21,12 @@ use Rattle.table_builder.proofs.Findings.{building-err, building-found, FoundFir
 use Rattle.table_builder.proofs.Accepted.{built_valid, built_sixteen, built_meets}
 use Rattle.table_builder.proofs.BuiltTables.{built_tables}
 use Rattle.table_builder.proofs.OnlyTables.{only_built}
+use Rattle.file_port.specs.Files.{Name, Files}
+use Rattle.file_port.specs.Seen.{Seen, SinkSeen}
+use Rattle.call_words.specs.Names.{is_among, stand_apart, are_names}
 use Rattle.cairo_commands.specs.declared.status.Status.{Status}
 use Rattle.cairo_commands.specs.declared.status.Status.TheVariants.{Done, Refused}
 use Rattle.cairo_commands.specs.Answer.{Answer, says, written}
-use Rattle.cairo_commands.specs.Request.{is_among, stand_apart, are_names}
 use Rattle.cairo_commands.specs.Reading.{◌>>=◌, read_as}
 use Rattle.cairo_commands.specs.Perform.{Replied}
 use Rattle.cairo_commands.specs.Programs.{program_read}

@@ -15,6 +15,7 @@ pub use Rattle.casm_word.specs.Run
 pub use Rattle.casm_word.specs.Text
 pub use Rattle.trace_files.specs.TraceFile
 pub use Rattle.trace_files.specs.MemoryFile
+pub use Rattle.call_words.specs.Names
 pub use Rattle.file_port.specs.Files
 pub use Rattle.file_port.specs.Counts
 pub use Rattle.file_port.specs.Ports

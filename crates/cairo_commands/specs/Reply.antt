@@ -1,8 +1,9 @@
 -- The reply: what a call answers, writes and prints, as a function of its words and of the files. Own.
-use Rattle.std.specs.Prelude.{List, [], ◌∷◌, map, String, string_bytes, Option, Some, None, if◌then◌else◌, codes}
+use Rattle.std.specs.Prelude.{List, [], ◌∷◌, String, Option, Some, None, if◌then◌else◌, codes}
 use Rattle.std.specs.declared.alloc.Global.{Global}
 use Rattle.std.specs.Str.{bytes_eq}
 use Rattle.file_port.specs.Files.{Name, Files}
+use Rattle.call_words.specs.Names.{texts}
 use Rattle.cairo_commands.specs.Answer.{Answer, Input, Task, usage}
 use Rattle.cairo_commands.specs.Request.{Request, Walk, Asm, Dis, Tables, Check}
 use Rattle.cairo_commands.specs.Commands.Walk.{walk_request, walk_task}
@@ -29,10 +30,6 @@ task (Asm text program) = asm_task text program
 task (Dis program text) = dis_task program text
 task (Tables program public trace memory tables) = tables_task program public trace memory tables
 task (Check program public tables) = check_task program public tables
-
--- The words as texts. Own.
-abbrev pub texts : List (String Global) → List Name
-texts words = map string_bytes words
 
 -- The command that the words are, if they are one. Own.
 abbrev pub request_of : List (String Global) → Option Request

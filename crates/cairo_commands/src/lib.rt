@@ -31,7 +31,7 @@ use commands::tables::tables;
 use commands::walk::walk;
 use ending::{Refusal, Work};
 use file_port::{Sink, Store};
-pub use laws::{number_laws, reply_laws, sure_laws};
+pub use laws::{reply_laws, sure_laws};
 use outputs::write_outputs;
 use print::print;
 pub use status::Status;
@@ -138,6 +138,3 @@ fn plan<'w, S: Store>(
         None => Err(Refusal::Usage),
     }
 }
-
-#[cfg(test)]
-mod tests;

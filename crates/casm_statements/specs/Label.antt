@@ -1,14 +1,10 @@
 -- Words and labels of the assembly text.
-use Rattle.std.specs.Prelude.{ℕ, Bool, false, ◌&&◌, ◌||◌, ◌==◌, if◌then◌else◌, List, [], ◌∷◌, Option, Some, None, is_none, nat_eq, codes}
+use Rattle.std.specs.Prelude.{ℕ, Bool, false, ◌&&◌, ◌||◌, ◌==◌, if◌then◌else◌, List, [], ◌∷◌, Option, Some, None, is_none, codes}
 use Rattle.std.specs.List.{list_all}
 use Rattle.std.specs.Char.{is_ascii_alphabetic, is_ascii_digit}
-use Rattle.std.specs.Cmp.Lexicographic.{pointwise}
+use Rattle.std.specs.Str.{bytes_eq}
 use Rattle.casm_statements.specs.declared.name.Reserved.{Reserved}
 use Rattle.casm_statements.specs.declared.name.Reserved.TheVariants.{Ap, Fp, Jmp, Call, Ret, If, Rel, Abs, Dw}
-
--- Two texts have the same bytes. Own.
-abbrev pub same_text : List ℕ → List ℕ → Bool
-same_text xs ys = pointwise nat_eq xs ys
 
 -- A letter or `_`: a byte that a word may begin with. Own.
 abbrev pub is_word_head : ℕ → Bool
@@ -26,15 +22,15 @@ is_word (b ∷ bs) = is_word_head b && list_all is_word_byte bs
 -- The reserved word that a text is, if it is one. Own.
 unfoldable pub reserved_word : List ℕ → Option Reserved
 reserved_word text =
-    if same_text text (codes "ap") then Some Ap
-    else (if same_text text (codes "fp") then Some Fp
-    else (if same_text text (codes "jmp") then Some Jmp
-    else (if same_text text (codes "call") then Some Call
-    else (if same_text text (codes "ret") then Some Ret
-    else (if same_text text (codes "if") then Some If
-    else (if same_text text (codes "rel") then Some Rel
-    else (if same_text text (codes "abs") then Some Abs
-    else (if same_text text (codes "dw") then Some Dw
+    if bytes_eq text (codes "ap") then Some Ap
+    else (if bytes_eq text (codes "fp") then Some Fp
+    else (if bytes_eq text (codes "jmp") then Some Jmp
+    else (if bytes_eq text (codes "call") then Some Call
+    else (if bytes_eq text (codes "ret") then Some Ret
+    else (if bytes_eq text (codes "if") then Some If
+    else (if bytes_eq text (codes "rel") then Some Rel
+    else (if bytes_eq text (codes "abs") then Some Abs
+    else (if bytes_eq text (codes "dw") then Some Dw
     else None))))))))
 
 -- A label: a word that isn't reserved. Own.

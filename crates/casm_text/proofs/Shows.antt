@@ -12,6 +12,7 @@ use Rattle.goldilocks.specs.Text.{Writes}
 use Rattle.goldilocks.specs.declared.Felt.{Felt}
 use Rattle.goldilocks.proofs.Texts.{Writes-decimal, Writes-hex}
 use Rattle.goldilocks.specs.Felts.{felt}
+use Rattle.goldilocks.proofs.Pairs.{felt-number, number-felt}
 use Rattle.casm_statements.specs.declared.name.Reserved.{Reserved}
 use Rattle.casm_statements.specs.declared.name.Reserved.TheVariants as reserved
 use Rattle.casm_statements.specs.declared.Reg.{Reg}
@@ -33,7 +34,7 @@ use Rattle.casm_tokens.specs.declared.marks.Symbol.TheVariants.{Increment, AddTo
 use Rattle.casm_tokens.specs.Marks.{Sign, Keyword, Label, Number}
 use Rattle.casm_tokens.specs.Pieces.{Cut, piece_at, sign_at, sign_len, sign_piece, run_piece, word_mark}
 use Rattle.casm_tokens.specs.Lines.{is_in_line}
-use Rattle.casm_tokens.proofs.Numbers.{number_read, felt-number}
+use Rattle.casm_tokens.proofs.Numbers.{number_read}
 use Rattle.casm_grammar.specs.declared.directive.Directive.{Directive}
 use Rattle.casm_grammar.specs.declared.directive.Directive.TheVariants as the
 use Rattle.casm_grammar.specs.Directives.{directive_word}
@@ -67,14 +68,11 @@ digit_first : (b : ℕ) → digit_value b < 10 → is_ascii_digit b ≡ true
 digit_first b h = grind (arith, nat_tests)
 
 -- numbers
-felt-is : (n : ℕ) → n < prime → (felt n).number ≡ n
-felt-is n h = mod-eq_of_lt h
-
 run-number : (w : List ℕ) (n : ℕ) → n < prime → Writes w n → 0 < length w → ((b : ℕ) (bs : List ℕ) → w ≡ b ∷ bs → is_ascii_digit b ≡ true) → run_piece w ≡ Cut (length w) (Number (felt n))
 unfolding run_piece
 run-number [] n h writes p first = absurd (omega arith)
 run-number (b ∷ bs) n h writes p first =
-    rw (first b bs refl) (number_read (b ∷ bs) (felt n) (subst (λ (x : ℕ). Writes (b ∷ bs) x) (sym (felt-is n h)) writes))
+    rw (first b bs refl) (number_read (b ∷ bs) (felt n) (subst (λ (x : ℕ). Writes (b ∷ bs) x) (sym (number-felt n h)) writes))
 
 cut-decimal : (n : ℕ) → n < prime → run_piece (decimal n) ≡ Cut (length (decimal n)) (Number (felt n))
 cut-decimal n h =
@@ -92,14 +90,14 @@ number_step n f v t h e k =
 up_to_step : (n most : ℕ) (f : Felt → Language) (v : List Body) (t : List ℕ) → n < prime → n ≤ most → ends_run t ≡ true → Fits (f (felt n)) v t → Fits (up_to most f) v (decimal n ++ t)
 up_to_step n most f v t h low e k =
     let d = decimal_is_IsNumeral n (omega arith) in
-    let w : (felt n).number ≤ most = let x = felt-is n h in omega arith in
+    let w : (felt n).number ≤ most = let x = number-felt n h in omega arith in
     Fits-run (f (felt n)) (up_to most f) v (decimal n) t (Number (felt n)) d.0.0 (all_digits-run 10 (decimal n) (omega arith) d.0.1) (cut-decimal n h) e (λ ms x. (felt n, ms, refl, w, x)) k
 
 nought_step : (l : Language) (v : List Body) (t : List ℕ) → ends_run t ≡ true → Fits l v t → Fits (nought l) v (48 ∷ t)
 nought_step l v t e k =
     let d = decimal_is_IsNumeral 0 (omega arith) in
     Fits-text (nought l) v (decimal 0 ++ t) (48 ∷ t) (ap (λ x. x ++ t) (decimal_digit 0 (omega arith)))
-    (Fits-run l (nought l) v (decimal 0) t (Number (felt 0)) d.0.0 (all_digits-run 10 (decimal 0) (omega arith) d.0.1) (cut-decimal 0 (omega arith)) e (λ ms x. (felt 0, ms, refl, felt-is 0 (omega arith), x)) k)
+    (Fits-run l (nought l) v (decimal 0) t (Number (felt 0)) d.0.0 (all_digits-run 10 (decimal 0) (omega arith) d.0.1) (cut-decimal 0 (omega arith)) e (λ ms x. (felt 0, ms, refl, number-felt 0 (omega arith), x)) k)
 
 hex_step : (x : Felt) (f : Felt → Language) (v : List Body) (t : List ℕ) → ends_run t ≡ true → Fits (f x) v t → Fits (number f) v ((codes "0x" ++ digits 16 false x.number) ++ t)
 hex_step x f v t e k =
@@ -129,7 +127,7 @@ negative-back : (x : Felt) → half < x.number → negative (felt (prime - x.num
 unfolding negative field_neg
 negative-back x h =
     let low = x.in_field in
-    let a = felt-is (prime - x.number) (omega arith) in
+    let a = number-felt (prime - x.number) (omega arith) in
     let m : (prime - x.number) % prime ≡ prime - x.number = mod-eq_of_lt (omega arith) in
     let back : prime - (prime - x.number) ≡ x.number = omega arith in
     let n : x.number % prime ≡ x.number = mod-eq_of_lt low in
@@ -157,13 +155,13 @@ offset_step k (pos (suc n)) v t b e h =
     (Fits-gap (sign Plus (up_to 32767 (λ x. k (pos x.number)))) v (43 ∷ 32 ∷ (decimal (suc n) ++ t))
     (sign_step Plus (up_to 32767 (λ x. k (pos x.number))) v (codes "+") (32 ∷ (decimal (suc n) ++ t)) (omega arith) refl refl
     (Fits-gap (up_to 32767 (λ x. k (pos x.number))) v (decimal (suc n) ++ t)
-    (up_to_step (suc n) 32767 (λ x. k (pos x.number)) v t (omega arith) (omega arith) e (subst (λ (m : ℕ). Fits (k (pos m)) v t) (sym (felt-is (suc n) (omega arith))) h)))))
+    (up_to_step (suc n) 32767 (λ x. k (pos x.number)) v t (omega arith) (omega arith) e (subst (λ (m : ℕ). Fits (k (pos m)) v t) (sym (number-felt (suc n) (omega arith))) h)))))
 offset_step k (negsuc n) v t b e h =
     Fits-map (sign Minus (up_to 32768 (λ x. k (neg_ℤ (pos x.number))))) (offset k) v (32 ∷ 45 ∷ 32 ∷ (decimal (suc n) ++ t)) (λ ms d. inr d)
     (Fits-gap (sign Minus (up_to 32768 (λ x. k (neg_ℤ (pos x.number))))) v (45 ∷ 32 ∷ (decimal (suc n) ++ t))
     (sign_step Minus (up_to 32768 (λ x. k (neg_ℤ (pos x.number)))) v (codes "-") (32 ∷ (decimal (suc n) ++ t)) (omega arith) refl refl
     (Fits-gap (up_to 32768 (λ x. k (neg_ℤ (pos x.number)))) v (decimal (suc n) ++ t)
-    (up_to_step (suc n) 32768 (λ x. k (neg_ℤ (pos x.number))) v t (omega arith) (omega arith) e (subst (λ (m : ℕ). Fits (k (neg_ℤ (pos m))) v t) (sym (felt-is (suc n) (omega arith))) h)))))
+    (up_to_step (suc n) 32768 (λ x. k (neg_ℤ (pos x.number))) v t (omega arith) (omega arith) e (subst (λ (m : ℕ). Fits (k (neg_ℤ (pos m))) v t) (sym (number-felt (suc n) (omega arith))) h)))))
 
 ends_offset : (o : ℤ) (t : List ℕ) → ends_run (offset_text o ++ (93 ∷ t)) ≡ true
 ends_offset (pos zero) t = refl
@@ -355,7 +353,7 @@ target_step : (k : Target → Language) (x : Target) (v : List Body) → IsTarge
 target_step k (target_is.Number n) v b h =
     Fits-text (target k) v (decimal n ++ []) (decimal n) (append-nil (decimal n))
     (Fits-map (up_to 4294967295 (λ x. k (target_is.Number x.number))) (target k) v (decimal n ++ []) (λ ms d. inl d)
-    (up_to_step n 4294967295 (λ x. k (target_is.Number x.number)) v [] (omega arith) (omega arith) refl (subst (λ (m : ℕ). Fits (k (target_is.Number m)) v []) (sym (felt-is n (omega arith))) h)))
+    (up_to_step n 4294967295 (λ x. k (target_is.Number x.number)) v [] (omega arith) (omega arith) refl (subst (λ (m : ℕ). Fits (k (target_is.Number m)) v []) (sym (number-felt n (omega arith))) h)))
 target_step k (target_is.Name n) v b h =
     Fits-text (target k) v (n ++ []) n (append-nil n)
     (Fits-map (label (λ n. k (target_is.Name n))) (target k) v (n ++ []) (λ ms d. inr d) (label_step n (λ n. k (target_is.Name n)) v [] b refl h))

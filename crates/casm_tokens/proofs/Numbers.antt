@@ -1,49 +1,22 @@
 -- Numbers and words as tokens.
-use Rattle.std.proofs.Common.{◌≡◌, ℕ, ◌<◌, true, false, not, ◌&&◌, cond, ltb, nat_lt, List, [], ◌∷◌, length, refl, ap, ◌∙◌, arith, Decides, inl, inr, length-drop, lt-ltb}
-use Rattle.std.specs.List.{list_all}
-use Rattle.std.specs.Char.{digit_value}
-use Rattle.std.specs.Str.Parse.{AllDigits}
-use Rattle.std.proofs.Math.Nat.{mod-eq_of_lt}
+use Rattle.std.proofs.Common.{◌≡◌, ℕ, ◌<◌, true, false, not, cond, nat_lt, List, length, refl, ap, ◌∙◌, arith, Decides, inl, inr, length-drop, lt-ltb}
 use Rattle.std.proofs.lemmas.Bool.Decides.{Decides-ltb}
 use Rattle.std.proofs.lemmas.Bool.{cases_lt}
 use Rattle.goldilocks.specs.Field.{prime}
 use Rattle.goldilocks.specs.declared.Felt.{Felt}
-use Rattle.goldilocks.specs.Text.{base_of, digit_bytes, mark_len, text_number, IsNumberText, Writes, IsTooLarge}
+use Rattle.goldilocks.specs.Text.{is_number_text, mark_len, text_number, IsNumberText, Writes, IsTooLarge}
 use Rattle.goldilocks.specs.Felts.{felt}
-use Rattle.goldilocks.proofs.Pairs.{same_felt}
+use Rattle.goldilocks.proofs.Pairs.{felt-number}
+use Rattle.goldilocks.proofs.Texts.{is_number_text_tells}
 use Rattle.casm_tokens.specs.declared.fault.SyntaxKind.TheVariants as kind
 use Rattle.casm_tokens.specs.Marks.{Number}
-use Rattle.casm_tokens.specs.Pieces.{Cut, Bad, is_number, number_piece}
-
--- a value is the one of its number
-pub felt-number : (v : Felt) → felt v.number ≡ v
-felt-number v = same_felt (felt v.number) v (mod-eq_of_lt v.in_field)
-
--- the test of digits
-all_digits : (r : ℕ) (ds : List ℕ) → Decides (list_all (λ b. nat_lt (digit_value b) r) ds) (AllDigits r ds)
-all_digits r [] = (λ _. tt, λ _. refl)
-all_digits r (d ∷ ds) =
-    let h = all_digits r ds in let k = Decides-ltb (digit_value d) r in
-    elim (ltb (digit_value d) r) as (λ t. Decides t (digit_value d < r) → Decides (t && list_all (λ b. nat_lt (digit_value b) r) ds) ((digit_value d < r) × AllDigits r ds)) [
-      | true ↦ λ k. (λ e. (k.0 refl, h.0 e), λ p. h.1 p.1)
-      | false ↦ λ k. (λ e. cc, λ p. k.1 p.0)
-    ] k
-
--- the test of a number's text
-pub is_number_tells : (text : List ℕ) → Decides (is_number text) (IsNumberText text)
-unfolding is_number IsNumberText
-is_number_tells text =
-    let h = all_digits (base_of text) (digit_bytes text) in let k = Decides-ltb 0 (length (digit_bytes text)) in
-    elim (ltb 0 (length (digit_bytes text))) as (λ t. Decides t (0 < length (digit_bytes text)) → Decides (t && list_all (λ b. nat_lt (digit_value b) (base_of text)) (digit_bytes text)) ((0 < length (digit_bytes text)) × AllDigits (base_of text) (digit_bytes text))) [
-      | true ↦ λ k. (λ e. (k.0 refl, h.0 e), λ p. h.1 p.1)
-      | false ↦ λ k. (λ e. cc, λ p. k.1 p.0)
-    ] k
+use Rattle.casm_tokens.specs.Pieces.{Cut, Bad, number_piece}
 
 -- a text of a value is that number
 pub number_read : (text : List ℕ) (v : Felt) → Writes text v.number → number_piece text ≡ Cut (length text) (Number v)
 unfolding number_piece Writes
 number_read text v w =
-    let n = (is_number_tells text).1 w.0 in
+    let n = (is_number_text_tells text).1 w.0 in
     let below : text_number text < prime = omega arith in
     let l = lt-ltb (text_number text) prime below in
     let f : felt (text_number text) ≡ v = ap felt w.1 ∙ felt-number v in
@@ -53,17 +26,17 @@ number_read text v w =
 pub number_bad : (text : List ℕ) → (IsNumberText text → ⊥) → number_piece text ≡ Bad kind.Number
 unfolding number_piece
 number_bad text none =
-    elim (is_number text) as (λ t. Decides t (IsNumberText text) → cond (not t) (Bad kind.Number) (cond (not (nat_lt (text_number text) prime)) (Bad kind.Range) (Cut (length text) (Number (felt (text_number text))))) ≡ Bad kind.Number) [
+    elim (is_number_text text) as (λ t. Decides t (IsNumberText text) → cond (not t) (Bad kind.Number) (cond (not (nat_lt (text_number text) prime)) (Bad kind.Range) (Cut (length text) (Number (felt (text_number text))))) ≡ Bad kind.Number) [
       | true ↦ λ d. absurd (none (d.0 refl))
       | false ↦ λ d. refl
-    ] (is_number_tells text)
+    ] (is_number_text_tells text)
 
 -- and so is one of a number of p or more
 pub number_large : (text : List ℕ) → IsTooLarge text → number_piece text ≡ Bad kind.Range
 unfolding number_piece IsTooLarge
 number_large text large =
-    let n = (is_number_tells text).1 large.0 in
-    elim (nat_lt (text_number text) prime) as (λ t. Decides t (text_number text < prime) → cond (not (is_number text)) (Bad kind.Number) (cond (not t) (Bad kind.Range) (Cut (length text) (Number (felt (text_number text))))) ≡ Bad kind.Range) [
+    let n = (is_number_text_tells text).1 large.0 in
+    elim (nat_lt (text_number text) prime) as (λ t. Decides t (text_number text < prime) → cond (not (is_number_text text)) (Bad kind.Number) (cond (not t) (Bad kind.Range) (Cut (length text) (Number (felt (text_number text))))) ≡ Bad kind.Range) [
       | true ↦ λ d. absurd (let h = d.0 refl in omega (arith, large.1))
       | false ↦ λ d. rw n refl
     ] (Decides-ltb (text_number text) prime)

@@ -9,8 +9,9 @@ use Rattle.std.proofs.lemmas.Bool.{cases_lt}
 use Rattle.std.specs.List.{list_all, prefix_len}
 use Rattle.std.specs.Char.{is_ascii_digit}
 use Rattle.goldilocks.specs.Field.{prime}
-use Rattle.goldilocks.specs.Text.{text_number, Writes, IsTooLarge}
+use Rattle.goldilocks.specs.Text.{is_number_text, text_number, Writes, IsTooLarge}
 use Rattle.goldilocks.specs.Felts.{felt}
+use Rattle.goldilocks.proofs.Texts.{is_number_text_tells}
 use Rattle.casm_statements.specs.declared.name.Reserved.{Reserved}
 use Rattle.casm_statements.specs.Label.{is_word_byte, is_word, is_label, reserved_word}
 use Rattle.casm_tokens.specs.declared.fault.SyntaxKind.{SyntaxKind}
@@ -18,9 +19,8 @@ use Rattle.casm_tokens.specs.declared.fault.SyntaxKind.TheVariants as kind
 use Rattle.casm_tokens.specs.declared.marks.Symbol.{Symbol}
 use Rattle.casm_tokens.specs.Marks.{Mark, Number, Placed}
 use Rattle.casm_tokens.specs.Tokens.{is_blank, begins_comment, sign_text, is_numeral, HasShape, IsLongest, Says, Part, Blank, Lexed, Comment, Parted, placed_from, CutsInto, IsBad, StopsAt}
-use Rattle.casm_tokens.specs.Pieces.{Piece, Over, Gap, Cut, Bad, is_number, number_piece, word_mark, run_piece, sign_at, sign_piece, piece_at, Scanned, after, scan_from, scan}
+use Rattle.casm_tokens.specs.Pieces.{Piece, Over, Gap, Cut, Bad, number_piece, word_mark, run_piece, sign_at, sign_piece, piece_at, Scanned, after, scan_from, scan}
 use Rattle.casm_tokens.proofs.LineLemmas.{list_all-run}
-use Rattle.casm_tokens.proofs.Numbers.{is_number_tells}
 use Rattle.casm_tokens.proofs.Scans.{scan_cut, scan_gap, scan_over, scan_bad}
 use Rattle.casm_tokens.proofs.Shapes.{both, head_of_byte, IsRun, run_of, ends_run, longest_run, sign_length, shape_some, sign_is, sign_found, longest_sign}
 
@@ -63,9 +63,9 @@ absurd_not t d e p = let h = d.1 p in cc
 number_is : (text rest : List ℕ) → is_numeral text ≡ true → IsRun text → ends_run rest ≡ true → IsPiece (text ++ rest) (number_piece text)
 unfolding number_piece IsTooLarge Writes
 number_is text rest digit r e =
-    let number = is_number_tells text in let low = Decides-ltb (text_number text) prime in
-    choose2 (IsPiece (text ++ rest)) (is_number text) (nat_lt (text_number text) prime) (Bad kind.Number) (Bad kind.Range) (Cut (length text) (Number (felt (text_number text))))
-    (λ x. record { text = text; rest = rest; parts = refl; longest = longest_run text rest r e; numeral = digit; stated = absurd_not (is_number text) number x })
+    let number = is_number_text_tells text in let low = Decides-ltb (text_number text) prime in
+    choose2 (IsPiece (text ++ rest)) (is_number_text text) (nat_lt (text_number text) prime) (Bad kind.Number) (Bad kind.Range) (Cut (length text) (Number (felt (text_number text))))
+    (λ x. record { text = text; rest = rest; parts = refl; longest = longest_run text rest r e; numeral = digit; stated = absurd_not (is_number_text text) number x })
     (λ x y. record { text = text; rest = rest; parts = refl; longest = longest_run text rest r e; numeral = digit; stated = (number.0 x, high y) })
     (λ x y. record { text = text; rest = rest; whole = refl; size = refl; longest = longest_run text rest r e; says = (digit, (number.0 x, sym (mod-eq_of_lt (low.0 y)), (felt (text_number text)).in_field)) })
   where

@@ -1,10 +1,10 @@
 -- How a line is cut into tokens from the left on. An auditor needn't read this file: it says what Tokens says as a
 -- relation, which public contracts cite, and `token_laws` ties the two.
-use Rattle.std.specs.Prelude.{ℕ, suc, zero, ◌+◌, ◌-◌, Bool, not, ◌&&◌, nat_lt, nat_eq, if◌then◌else◌, List, [], ◌∷◌, ◌++◌, length, take, Option, Some, None, codes}
-use Rattle.std.specs.List.{list_all, prefix_len, starts_with}
-use Rattle.std.specs.Char.{is_ascii_digit, digit_value}
+use Rattle.std.specs.Prelude.{ℕ, suc, zero, ◌+◌, ◌-◌, not, nat_lt, nat_eq, if◌then◌else◌, List, [], ◌∷◌, ◌++◌, length, take, Option, Some, None, codes}
+use Rattle.std.specs.List.{prefix_len, starts_with}
+use Rattle.std.specs.Char.{is_ascii_digit}
 use Rattle.goldilocks.specs.Field.{prime}
-use Rattle.goldilocks.specs.Text.{base_of, digit_bytes, text_number}
+use Rattle.goldilocks.specs.Text.{is_number_text, text_number}
 use Rattle.goldilocks.specs.Felts.{felt}
 use Rattle.casm_statements.specs.declared.name.Reserved.{Reserved}
 use Rattle.casm_statements.specs.Label.{is_word_byte, reserved_word}
@@ -56,14 +56,10 @@ unfoldable pub word_mark : Option Reserved → List ℕ → Mark
 word_mark (Some r) text = Keyword r
 word_mark None text = Label text
 
--- A text of digits in its base, with or without the mark `0x`. Own.
-unfoldable pub is_number : List ℕ → Bool
-is_number text = nat_lt 0 (length (digit_bytes text)) && list_all (λ b. nat_lt (digit_value b) (base_of text)) (digit_bytes text)
-
 -- The token of a number: it has only digits after its mark, and is below p. Own.
 unfoldable pub number_piece : List ℕ → Piece
 number_piece text =
-    if not (is_number text) then Bad kind.Number
+    if not (is_number_text text) then Bad kind.Number
     else (if not (nat_lt (text_number text) prime) then Bad kind.Range
     else Cut (length text) (Number (felt (text_number text))))
 

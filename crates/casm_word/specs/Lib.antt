@@ -1,3 +1,4 @@
+pub mod Length
 pub mod Word
 pub mod Transition
 pub mod Run

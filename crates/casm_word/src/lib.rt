@@ -1,4 +1,4 @@
-//! The instruction word of the Cairo machine, and one step of it.
+//! The instruction word of the Cairo machine, one step of it, and the most words of a program.
 #![tactic(auto)]
 
 mod decoder;
@@ -12,6 +12,9 @@ pub use encoder::encode;
 use goldilocks::Felt;
 pub use laws::{legal_run_laws, outcome_laws, refused_step_laws};
 pub use stepper::step;
+
+/// The most words that a program has, 2^18.
+pub const MOST_WORDS: usize = 0x4_0000;
 
 /// What is added to an offset in a word, 2^15.
 const OFFSET_BIAS: i32 = 0x8000;

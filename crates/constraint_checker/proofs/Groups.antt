@@ -7,6 +7,8 @@ use Rattle.std.proofs.lemmas.List.Quantifiers.{position-Some}
 use Rattle.goldilocks.specs.declared.Felt.{Felt}
 use Rattle.goldilocks.specs.declared.Pair.{Pair}
 use Rattle.casm_word.specs.Transition.{Registers, registers}
+use Rattle.program_file.specs.Listing.{Listing}
+use Rattle.public_input.specs.Statement.{Statement}
 use Rattle.cpu_rows.specs.Columns.{Columns, columns}
 use Rattle.cpu_rows.specs.Equations.{Meets, equations, fault}
 use Rattle.cpu_rows.specs.Table.{faults, IsFirstFault}
@@ -15,13 +17,11 @@ use Rattle.sorted_lists.specs.Order.{in_order}
 use Rattle.sorted_lists.specs.Difference.{list_difference}
 use Rattle.sorted_lists.specs.Climbing.{climb, first_between}
 use Rattle.memory_columns.specs.declared.ListFault.{ListFault}
-use Rattle.memory_columns.specs.Equations.{pair_cmp, is_same_pair, m1, m2, pair_fault, order_fault, first_memory_fault, fault_at as list_fault_at}
+use Rattle.memory_columns.specs.Equations.{pair_cmp, is_same_pair, m1, m2, pair_fault, first_memory_fault, fault_at as list_fault_at}
 use Rattle.range_columns.specs.declared.RangeFault.{RangeFault}
 use Rattle.range_columns.specs.declared.RangeRow.{RangeRow}
 use Rattle.range_columns.specs.Limbs.{V1, meets_v1, joined_limbs}
 use Rattle.range_columns.specs.Equations.{felt_cmp, is_same_felt, is_number, first_number, last_number, fault_at as range_fault_at, q1_fault, q2_fault, q3_fault, q4_fault, step_fault, first_range_fault}
-use Rattle.program_file.specs.Listing.{Listing}
-use Rattle.public_input.specs.Statement.{Statement}
 use Rattle.table_file.specs.Tables.{Contents}
 use Rattle.constraint_checker.specs.declared.Constraint.{Constraint}
 use Rattle.constraint_checker.specs.declared.Constraint.TheVariants.{C, V, M, Q}
@@ -143,7 +143,7 @@ of_list_fault None = Accepted
 of_list_fault (Some f) = Refused (M f.number) f.row
 
 pub memory_by_fault : (program : Listing) (public : Statement) (tables : Contents) → verdict_on (memory_conditions program public tables) ≡ of_list_fault (first_memory_fault (accesses program public tables) tables.pairs)
-unfolding memory_conditions pair_conditions access_conditions asked_of_pairs first_memory_fault order_fault
+unfolding memory_conditions pair_conditions access_conditions asked_of_pairs first_memory_fault
 memory_by_fault program public tables =
     let pairs : List Pair = tables.pairs in
     let difference : Option ℕ = list_difference is_same_pair (in_order pair_cmp (accesses program public tables)) (in_order pair_cmp pairs) in

@@ -2,20 +2,16 @@
 -- 2021/1063.
 use Rattle.std.specs.Prelude.{ℕ, ◌≡◌, ◌+◌, ◌-◌, Bool, ◌==◌, List, [], ◌∷◌, ◌++◌, map, length, drop, Option, is_none, unwrap_or, slice_index_or, All}
 use Rattle.std.specs.List.{flat_map, enumerate_from, zip}
-use Rattle.goldilocks.specs.declared.Felt.{Felt}
-use Rattle.goldilocks.specs.declared.Pair.{Pair}
 use Rattle.casm_word.specs.Transition.{Registers, registers}
+use Rattle.program_file.specs.Listing.{Listing}
+use Rattle.public_input.specs.Statement.{Statement}
 use Rattle.cpu_rows.specs.Columns.{Columns, columns}
 use Rattle.cpu_rows.specs.Equations.{equations, holds, Meets}
 use Rattle.cpu_rows.specs.Table.{states_of, with_next}
-use Rattle.sorted_lists.specs.Order.{in_order}
-use Rattle.sorted_lists.specs.Difference.{list_difference}
 use Rattle.sorted_lists.specs.Climbing.{climb}
-use Rattle.memory_columns.specs.Equations.{pair_cmp, is_same_pair, m1, m2, M1, M2, M3}
+use Rattle.memory_columns.specs.Equations.{m1, m2, pair_difference, M1, M2, M3}
 use Rattle.range_columns.specs.Limbs.{joined_limbs, V1}
-use Rattle.range_columns.specs.Equations.{felt_cmp, is_same_felt, is_number, first_number, last_number, Q1, Q2, Q3, Q4}
-use Rattle.program_file.specs.Listing.{Listing}
-use Rattle.public_input.specs.Statement.{Statement}
+use Rattle.range_columns.specs.Equations.{is_number, first_number, last_number, range_difference, Q1, Q2, Q3, Q4}
 use Rattle.table_file.specs.Tables.{Contents}
 use Rattle.constraint_checker.specs.declared.Constraint.{Constraint}
 use Rattle.constraint_checker.specs.declared.Constraint.TheVariants.{P, C, V, M, Q}
@@ -64,14 +60,6 @@ at_each items asked = flat_map (λ at. asked at.0 at.1) (enumerate_from 0 items)
 -- Each item with the one after it. Own.
 abbrev pub neighbours : {X : Type 0} → List X → List (X × X)
 neighbours items = zip items (drop 1 items)
-
--- The first place at which accesses and sorted pairs, each put in order, differ, or the length of the shorter list. Own.
-abbrev pub pair_difference : List Pair → List Pair → Option ℕ
-pair_difference found sorted = list_difference is_same_pair (in_order pair_cmp found) (in_order pair_cmp sorted)
-
--- The same of values of the range check and sorted ones. Own.
-abbrev pub range_difference : List Felt → List Felt → Option ℕ
-range_difference found sorted = list_difference is_same_felt (in_order felt_cmp found) (in_order felt_cmp sorted)
 
 -- All written constraints in their order. C1 to C39 are asked of each row and the state after it, and V1 of each range
 -- row. M1 and M2 are asked of each sorted pair and the next, Q2 of each sorted range value and the next. The

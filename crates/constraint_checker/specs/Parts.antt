@@ -2,19 +2,19 @@
 use Rattle.std.specs.Prelude.{◌+◌, ◌-◌, ◌<◌, ◌==◌, List, [], ◌∷◌, ◌++◌, map, length, All}
 use Rattle.casm_word.specs.Transition.{Memory}
 use Rattle.casm_word.specs.Run.{LegalRun}
+use Rattle.program_file.specs.Listing.{Listing}
+use Rattle.public_input.specs.Statement.{Statement}
 use Rattle.cpu_rows.specs.Columns.{columns}
 use Rattle.cpu_rows.specs.Steps.{HasSmallOffsets, HasCells, row_accesses}
 use Rattle.cpu_rows.specs.Equations.{equations, holds}
 use Rattle.sorted_lists.specs.Climbing.{climb}
-use Rattle.memory_columns.specs.Equations.{m1, m2}
+use Rattle.memory_columns.specs.Equations.{m1, m2, pair_difference}
 use Rattle.range_columns.specs.Limbs.{joined_limbs}
-use Rattle.range_columns.specs.Equations.{is_number, first_number, last_number}
-use Rattle.program_file.specs.Listing.{Listing}
-use Rattle.public_input.specs.Statement.{Statement}
+use Rattle.range_columns.specs.Equations.{is_number, first_number, last_number, range_difference}
 use Rattle.table_file.specs.Tables.{Contents}
 use Rattle.constraint_checker.specs.declared.Constraint.TheVariants.{P, C, V, M, Q}
 use Rattle.constraint_checker.specs.Lists.{accesses, range_values}
-use Rattle.constraint_checker.specs.Constraints.{Condition, condition, are_one, pair_difference, range_difference, at_each, neighbours, rows_with_next, states, first_state, last_state}
+use Rattle.constraint_checker.specs.Constraints.{Condition, condition, are_one, at_each, neighbours, rows_with_next, states, first_state, last_state}
 
 -- P1 to P5. Own.
 unfoldable pub start_conditions : Listing → Statement → Contents → List Condition

@@ -1,5 +1,6 @@
 -- A value of the field is its number, and cells are ordered by address and then by value.
 use Rattle.std.proofs.Common.{◌≡◌, ◌↔◌, ℕ, ◌<◌, ◌⊎◌, ◌&&◌, IsTrue, nat_eq, refl, ap, subst, arith, inl, inr, Ordering, nat_cmp}
+use Rattle.std.proofs.Math.Nat.{mod-eq_of_lt}
 use Rattle.std.proofs.Props.{props}
 use Rattle.std.proofs.lemmas.Bool.Decides.{nat_tests}
 use Rattle.std.proofs.lemmas.Cmp.{ranked}
@@ -7,6 +8,7 @@ use Rattle.std.specs.Ordering.{MatchOrdering, ordering_then}
 use Rattle.std.specs.declared.cmp.Ordering.TheVariants.{Less, Equal, Greater}
 use Rattle.goldilocks.specs.declared.Felt.{Felt}
 use Rattle.goldilocks.specs.declared.Pair.{Pair}
+use Rattle.goldilocks.specs.Felts.{felt}
 use Rattle.goldilocks.specs.Field.{prime}
 use Rattle.goldilocks.specs.Pairs.{IsBefore}
 
@@ -17,6 +19,14 @@ same_felt x y e =
     let P : ℕ → Type 0 = λ n. (below : n < prime) → x ≡ record { number = n; in_field = below } in
     let at_x : P x.number = λ below. ap (λ (h : x.number < prime). record { number = x.number; in_field = h }) (unique x.in_field below) in
     subst P e at_x y.in_field
+
+-- a value of the field is that of its number
+pub felt-number : (x : Felt) → felt x.number ≡ x
+felt-number x = same_felt (felt x.number) x (mod-eq_of_lt x.in_field)
+
+-- and a number below p is that of its value
+pub number-felt : (n : ℕ) → n < prime → (felt n).number ≡ n
+number-felt n low = mod-eq_of_lt low
 
 -- equal numbers make equal cells
 pub same_pair : (x y : Pair) → x.addr.number ≡ y.addr.number → x.value.number ≡ y.value.number → x ≡ y

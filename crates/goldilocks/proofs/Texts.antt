@@ -1,20 +1,22 @@
 -- Texts of numbers: what is written is read back, and the steps of reading.
-use Rattle.std.proofs.Common.{◌≡◌, ℕ, zero, suc, ◌+◌, ◌-◌, ◌*◌, ◌<◌, ◌≤◌, ◌↔◌, ◌∙◌, Bool, false, cond, eqb, List, [], ◌∷◌, ◌++◌, length, get_or, take, drop, min, sym, ap, refl, subst, arith, inl, inr, codes, Result, Ok, Err, IfOk, IsOk, length-drop}
+use Rattle.std.proofs.Common.{◌≡◌, ℕ, zero, suc, ◌+◌, ◌-◌, ◌*◌, ◌<◌, ◌≤◌, ◌↔◌, ◌∙◌, Bool, true, false, ◌&&◌, cond, eqb, ltb, nat_lt, Decides, List, [], ◌∷◌, ◌++◌, length, get_or, take, drop, min, sym, ap, refl, subst, arith, inl, inr, codes, Result, Ok, Err, IfOk, IsOk, length-drop}
 use Rattle.std.proofs.Math.Nat.{mul-le-mul_left, mul-le-mul_right}
 use Rattle.std.proofs.lemmas.Fmt.{decimal_is_IsNumeral, digits_is_IsNumeral}
 use Rattle.std.proofs.lemmas.Int.Digits.{digits_value_more, digits_more}
 use Rattle.std.proofs.lemmas.List.{get_or_past, get_or-drop}
 use Rattle.std.proofs.lemmas.Str.Parse.{digit_at}
+use Rattle.std.proofs.lemmas.Bool.Decides.{Decides-ltb}
 use Rattle.std.proofs.lemmas.Bool.{cases_lt, cases_order, and_right, ne_eqb, false≢true}
 use Rattle.std.specs.Char.{digit_value}
 use Rattle.std.specs.Fmt.{decimal, digits}
 use Rattle.std.specs.Int.{IsInRange}
+use Rattle.std.specs.List.{list_all}
 use Rattle.std.specs.Str.Parse.{AllDigits, IsNumeral, digits_value}
 use Rattle.goldilocks.specs.declared.Felt.{Felt}
 use Rattle.goldilocks.specs.declared.text.TextFault.{TextFault}
 use Rattle.goldilocks.specs.declared.text.TextFault.TheVariants.{Empty, BadDigit, TooLarge}
 use Rattle.goldilocks.specs.Field.{prime}
-use Rattle.goldilocks.specs.Text.{is_marked, mark_len, base_of, IsNumberText, text_number, Writes, HasNoDigits, IsFirstOther, IsFirstBadDigit, IsTooLarge}
+use Rattle.goldilocks.specs.Text.{is_marked, mark_len, base_of, digit_bytes, IsNumberText, is_number_text, text_number, Writes, HasNoDigits, IsFirstOther, IsFirstBadDigit, IsTooLarge}
 use Rattle.goldilocks.specs.Reading.{IsAnswer}
 
 not_marked : (bs : List ℕ) → AllDigits 10 bs → is_marked bs ≡ false
@@ -44,6 +46,26 @@ unfolding Writes IsNumberText text_number
 Writes-hex n low =
     let h = digits_is_IsNumeral 16 false (omega arith) (omega arith) n (omega arith) in
     (h.0, h.1, low)
+
+-- the test of digits
+all_digits : (base : ℕ) (ds : List ℕ) → Decides (list_all (λ b. nat_lt (digit_value b) base) ds) (AllDigits base ds)
+all_digits base [] = (λ _. tt, λ _. refl)
+all_digits base (d ∷ ds) =
+    let h = all_digits base ds in let k = Decides-ltb (digit_value d) base in
+    elim (ltb (digit_value d) base) as (λ t. Decides t (digit_value d < base) → Decides (t && list_all (λ b. nat_lt (digit_value b) base) ds) ((digit_value d < base) × AllDigits base ds)) [
+      | true ↦ λ k. (λ e. (k.0 refl, h.0 e), λ p. h.1 p.1)
+      | false ↦ λ k. (λ e. cc, λ p. k.1 p.0)
+    ] k
+
+-- the test of a number's text
+pub is_number_text_tells : (text : List ℕ) → Decides (is_number_text text) (IsNumberText text)
+unfolding IsNumberText
+is_number_text_tells text =
+    let h = all_digits (base_of text) (digit_bytes text) in let k = Decides-ltb 0 (length (digit_bytes text)) in
+    elim (ltb 0 (length (digit_bytes text))) as (λ t. Decides t (0 < length (digit_bytes text)) → Decides (t && list_all (λ b. nat_lt (digit_value b) (base_of text)) (digit_bytes text)) ((0 < length (digit_bytes text)) × AllDigits (base_of text) (digit_bytes text))) [
+      | true ↦ λ k. (λ e. (k.0 refl, h.0 e), λ p. h.1 p.1)
+      | false ↦ λ k. (λ e. cc, λ p. k.1 p.0)
+    ] k
 
 -- one more digit, where the number so far stands at most at p
 pub capped_step : (b n v d : ℕ) → 1 ≤ b → n ≡ min v prime → min (n * b + d) prime ≡ min (v * b + d) prime

@@ -1,7 +1,8 @@
 -- How a number of the field is written: decimal digits, or `0x` and hexadecimal digits of either case, with
 -- any number of leading zeros.
-use Rattle.std.specs.Prelude.{◌≡◌, ℕ, ◌<◌, ◌≤◌, Bool, ◌&&◌, ◌==◌, cond, List, length, drop, slice_index}
+use Rattle.std.specs.Prelude.{◌≡◌, ℕ, ◌<◌, ◌≤◌, Bool, ◌&&◌, ◌==◌, cond, List, length, drop, slice_index, nat_lt}
 use Rattle.std.specs.Char.{digit_value}
+use Rattle.std.specs.List.{list_all}
 use Rattle.std.specs.Str.Parse.{IsNumeral, digits_value}
 use Rattle.goldilocks.specs.Field.{prime}
 
@@ -32,6 +33,10 @@ IsFirstOther text start base i =
 -- The text is a number: at least one digit, and nothing else after the mark. Own.
 unfoldable pub IsNumberText : List ℕ → Type 0
 IsNumberText text = IsNumeral (base_of text) (digit_bytes text)
+
+-- Whether the text is a number: decimal digits, or hexadecimal digits after `0x`, at least one and nothing else. Own.
+abbrev pub is_number_text : List ℕ → Bool
+is_number_text text = nat_lt 0 (length (digit_bytes text)) && list_all (λ b. nat_lt (digit_value b) (base_of text)) (digit_bytes text)
 
 -- The number that the digits write. Own.
 unfoldable pub text_number : List ℕ → ℕ

@@ -1,38 +1,15 @@
 -- Texts of numbers of the field: the test and the relation say the same.
-use Rattle.std.proofs.Common.{◌≡◌, ℕ, ◌<◌, ◌&&◌, ◌↔◌, Bool, true, false, nat_lt, List, [], ◌∷◌, Some, None, Result, Ok, Err, IfOk, IsOk, cond, refl, sym, ap, ◌∙◌, subst, lt-ltb, ltb-true}
-use Rattle.std.proofs.Math.Nat.{mod-eq_of_lt}
-use Rattle.std.proofs.lemmas.Bool.{and_parts, false≢true}
-use Rattle.std.specs.Char.{digit_value}
-use Rattle.std.specs.List.{list_all}
+use Rattle.std.proofs.Common.{◌≡◌, ℕ, ◌<◌, ◌&&◌, ◌↔◌, Bool, true, false, nat_lt, List, Some, None, Result, Ok, Err, IfOk, IsOk, cond, refl, sym, ap, ◌∙◌, subst, lt-ltb, ltb-true}
+use Rattle.std.proofs.lemmas.Bool.{false≢true}
 use Rattle.std.specs.Result.{result_ok}
-use Rattle.std.specs.Str.Parse.{AllDigits}
 use Rattle.goldilocks.specs.Field.{prime}
-use Rattle.goldilocks.specs.Text.{base_of, digit_bytes, text_number, IsNumberText, Writes}
+use Rattle.goldilocks.specs.Text.{is_number_text, text_number, IsNumberText, Writes}
 use Rattle.goldilocks.specs.declared.Felt.{Felt}
 use Rattle.goldilocks.specs.declared.text.TextFault.{TextFault}
-use Rattle.goldilocks.proofs.Pairs.{same_felt}
-use Rattle.goldilocks.proofs.Texts.{Writes-hex}
+use Rattle.goldilocks.proofs.Pairs.{same_felt, number-felt}
+use Rattle.goldilocks.proofs.Texts.{Writes-hex, is_number_text_tells}
 use Rattle.goldilocks.specs.Felts.{felt}
-use Rattle.json_fields.specs.FieldTexts.{is_number_text, felt_of_text, hex_text}
-
-AllDigits-list_all : (base : ℕ) (ds : List ℕ) → list_all (λ b. nat_lt (digit_value b) base) ds ≡ true → AllDigits base ds
-AllDigits-list_all base [] h = tt
-AllDigits-list_all base (d ∷ ds) h = let p = and_parts _ _ h in (ltb-true _ _ p.0, AllDigits-list_all base ds p.1)
-
-list_all-AllDigits : (base : ℕ) (ds : List ℕ) → AllDigits base ds → list_all (λ b. nat_lt (digit_value b) base) ds ≡ true
-list_all-AllDigits base [] h = refl
-list_all-AllDigits base (d ∷ ds) h = rw (lt-ltb _ _ h.0) (list_all-AllDigits base ds h.1)
-
-is_number_text-true : (text : List ℕ) → IsNumberText text → is_number_text text ≡ true
-unfolding IsNumberText
-is_number_text-true text h = rw (lt-ltb _ _ h.0) (list_all-AllDigits (base_of text) (digit_bytes text) h.1)
-
-IsNumberText-from_true : (text : List ℕ) → is_number_text text ≡ true → IsNumberText text
-unfolding IsNumberText
-IsNumberText-from_true text h = let p = and_parts _ _ h in (ltb-true _ _ p.0, AllDigits-list_all (base_of text) (digit_bytes text) p.1)
-
-number-felt : (n : ℕ) → n < prime → (felt n).number ≡ n
-number-felt n h = mod-eq_of_lt h
+use Rattle.json_fields.specs.FieldTexts.{felt_of_text, hex_text}
 
 -- a text that writes a number is read as it
 pub felt_of_text-Writes : (text : List ℕ) (x : Felt) → Writes text x.number → felt_of_text text ≡ Some x
@@ -40,7 +17,7 @@ unfolding felt_of_text Writes
 felt_of_text-Writes text x h =
     let low : text_number text < prime = subst (λ n. n < prime) (sym h.1) h.2 in
     let same : felt (text_number text) ≡ x = same_felt (felt (text_number text)) x (number-felt (text_number text) low ∙ h.1) in
-    rw (is_number_text-true text h.0, lt-ltb _ _ low) (ap Some same)
+    rw ((is_number_text_tells text).1 h.0, lt-ltb _ _ low) (ap Some same)
 
 given : (text : List ℕ) (x : Felt) (a b : Bool) → is_number_text text ≡ a → nat_lt (text_number text) prime ≡ b → cond (a && b) (Some (felt (text_number text))) None ≡ Some x → Writes text x.number
 unfolding Writes
@@ -48,7 +25,7 @@ given text x true true e f h =
     let low : text_number text < prime = ltb-true _ _ f in
     let same : felt (text_number text) ≡ x = cc in
     let number : text_number text ≡ x.number = sym (number-felt (text_number text) low) ∙ ap (λ (v : Felt). v.number) same in
-    (IsNumberText-from_true text e, number, x.in_field)
+    ((is_number_text_tells text).0 e, number, x.in_field)
 given text x true false e f h = absurd (cc)
 given text x false b e f h = absurd (cc)
 
@@ -61,7 +38,7 @@ pub felt_of_text-hex_text : (x : Felt) → felt_of_text (hex_text x) ≡ Some x
 felt_of_text-hex_text x = felt_of_text-Writes (hex_text x) x (Writes-hex x.number x.in_field)
 
 refused : (text : List ℕ) (a b : Bool) → is_number_text text ≡ a → nat_lt (text_number text) prime ≡ b → (IsNumberText text × (text_number text < prime) → ⊥) → None ≡ cond (a && b) (Some (felt (text_number text))) None
-refused text true true e f none = absurd (none (IsNumberText-from_true text e, ltb-true _ _ f))
+refused text true true e f none = absurd (none ((is_number_text_tells text).0 e, ltb-true _ _ f))
 refused text true false e f none = refl
 refused text false b e f none = refl
 

@@ -20,7 +20,7 @@ use Rattle.sorted_lists.proofs.Absent.{absent-has, any_from, no_gap}
 use Rattle.sorted_lists.proofs.Differences.{difference-none}
 use Rattle.sorted_lists.proofs.InOrder.{in_order-IsPermutation, in_order-IsSorted, in_order_kept, in_order-IsPermutation_same}
 use Rattle.sorted_lists.proofs.Neighbours.{climb_from_step, first_between-none}
-use Rattle.memory_columns.specs.Equations.{m1, pair_cmp, is_same_pair, pair_fault, order_fault, first_memory_fault}
+use Rattle.memory_columns.specs.Equations.{m1, pair_cmp, is_same_pair, pair_fault, first_memory_fault}
 use Rattle.memory_columns.specs.OneMemory.{OneValueEach}
 use Rattle.memory_columns.proofs.Cells.{pair_total, pair_equal, same_pair_tells, addresses_ascend}
 use Rattle.memory_columns.proofs.PairFaults.{fault-nothing}
@@ -199,7 +199,7 @@ module _ (m : Memory) (accesses fill : List Pair) (least greatest : ℕ) (filler
         e
 
     pub no_fault : first_memory_fault all sorted ≡ None
-    unfolding first_memory_fault order_fault
+    unfolding first_memory_fault
     no_fault =
         let neighbours : first_between pair_fault sorted ≡ None = first_between-none pair_fault sorted (λ k d lt. fault-nothing (get_or sorted k d) (get_or sorted (k + 1) d) (climbs k d lt) (stays k d lt)) in
         let kept : in_order pair_cmp sorted ≡ sorted = in_order_kept pair_cmp pair_total pair_equal sorted up in

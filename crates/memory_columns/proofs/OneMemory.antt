@@ -7,19 +7,19 @@ use Rattle.std.proofs.lemmas.Bool.{cases_eq, eq-eqb, ne_eqb}
 use Rattle.std.proofs.lemmas.Option.{get_or_from_slice_get, slice_get_within, same_Some}
 use Rattle.std.proofs.lemmas.List.Elements.{All-contains}
 use Rattle.std.proofs.lemmas.List.Sorted.{All-permutation, IsPermutation-sym}
+use Rattle.std.specs.List.{AllAdjacentBelow}
 use Rattle.goldilocks.specs.Field.{prime, field_sub}
 use Rattle.goldilocks.specs.declared.Pair.{Pair}
 use Rattle.casm_word.specs.Transition.{Memory}
 use Rattle.sorted_lists.specs.Climbing.{climb, AllNeighbours, first_between}
 use Rattle.sorted_lists.proofs.Steps.{distance-ascends, distance-reached, number_from_distance, from_distance}
-use Rattle.std.specs.List.{AllAdjacentBelow}
 use Rattle.sorted_lists.specs.Order.{in_order}
 use Rattle.sorted_lists.specs.Difference.{list_difference}
 use Rattle.sorted_lists.proofs.Neighbours.{none_between, some_between, first_between-none}
-use Rattle.memory_columns.specs.declared.ListFault.{ListFault}
 use Rattle.sorted_lists.proofs.Differences.{difference-none, difference-some}
 use Rattle.sorted_lists.proofs.InOrder.{IsPermutation-from_in_order}
-use Rattle.memory_columns.specs.Equations.{m1, m2, pair_cmp, is_same_pair, pair_fault, order_fault, first_memory_fault, fault_at, M1, M2, M3, IsFirstFault}
+use Rattle.memory_columns.specs.declared.ListFault.{ListFault}
+use Rattle.memory_columns.specs.Equations.{m1, m2, pair_cmp, is_same_pair, pair_fault, pair_difference, first_memory_fault, fault_at, M1, M2, M3, IsFirstFault}
 use Rattle.memory_columns.specs.OneMemory.{memory_of_pairs, Holds, OneValueEach, IsBetween, AreOneMemory}
 use Rattle.memory_columns.proofs.Cells.{address_below, same_pair_tells}
 use Rattle.memory_columns.proofs.PairFaults.{pair_fault_tells, value_stays, fault-none}
@@ -139,8 +139,8 @@ module _ (accesses sorted : List Pair) where
   m2_holds e k d lt = (rw (no_pair_fault e k d lt) at (pair_fault_tells (get_or sorted k d) (get_or sorted (k + 1) d))).1
 
   pub m3_holds : first_memory_fault accesses sorted ≡ None → in_order pair_cmp accesses ≡ in_order pair_cmp sorted
-  unfolding first_memory_fault order_fault
-  m3_holds e = (difference-none is_same_pair same_pair_tells (in_order pair_cmp accesses) (in_order pair_cmp sorted)).0 (nothing_mapped (λ row. fault_at 3 row) (order_fault accesses sorted) (nothing_first _ _ e).1)
+  unfolding first_memory_fault
+  m3_holds e = (difference-none is_same_pair same_pair_tells (in_order pair_cmp accesses) (in_order pair_cmp sorted)).0 (nothing_mapped (λ row. fault_at 3 row) (pair_difference accesses sorted) (nothing_first _ _ e).1)
 
 -- cells that a memory holds have one value each
 pub one_value-from_holds : (m : Memory) (cells : List Pair) → Holds m cells → OneValueEach cells
@@ -169,7 +169,7 @@ one_memory accesses sorted e short =
 -- what the answer is
 
 no_fault_from : (accesses sorted : List Pair) → M1 sorted × M2 sorted × M3 accesses sorted → first_memory_fault accesses sorted ≡ None
-unfolding first_memory_fault order_fault M1 M2 M3
+unfolding first_memory_fault M1 M2 M3
 no_fault_from accesses sorted h =
     let neighbours : first_between pair_fault sorted ≡ None = first_between-none pair_fault sorted (λ k d lt. fault-none (get_or sorted k d) (get_or sorted (k + 1) d) (h.0 k d lt) (h.1 k d lt)) in
     let order : list_difference is_same_pair (in_order pair_cmp accesses) (in_order pair_cmp sorted) ≡ None = (difference-none is_same_pair same_pair_tells (in_order pair_cmp accesses) (in_order pair_cmp sorted)).1 (h.2) in
@@ -211,8 +211,8 @@ finds_between accesses sorted row n e =
       | inr two ↦ inr (inl (two, before, (found.0, λ d. (two_fails n (get_or sorted row d) (get_or sorted (row + 1) d) two (found.2 d)).0), (found.0, λ d. (two_fails n (get_or sorted row d) (get_or sorted (row + 1) d) two (found.2 d)).1)))
     ]
 
-finds_order : (accesses sorted : List Pair) (row : ℕ) → first_between pair_fault sorted ≡ None → order_fault accesses sorted ≡ Some row → IsFirstFault accesses sorted (fault_at 3 row)
-unfolding IsFirstFault order_fault M1 M2
+finds_order : (accesses sorted : List Pair) (row : ℕ) → first_between pair_fault sorted ≡ None → pair_difference accesses sorted ≡ Some row → IsFirstFault accesses sorted (fault_at 3 row)
+unfolding IsFirstFault M1 M2
 finds_order accesses sorted row e g =
     let none : AllNeighbours (λ x y. pair_fault x y ≡ None) sorted = none_between pair_fault sorted e in
     inr (inr (
@@ -222,7 +222,7 @@ finds_order accesses sorted row e g =
       difference-some is_same_pair same_pair_tells (in_order pair_cmp accesses) (in_order pair_cmp sorted) row g,
     ))
 
-finds_first : (accesses sorted : List Pair) (fault : ListFault) (between : Option (ℕ × ℕ)) (order : Option ℕ) → first_between pair_fault sorted ≡ between → order_fault accesses sorted ≡ order → option_or (option_map (λ p. fault_at p.1 p.0) between) (option_map (λ row. fault_at 3 row) order) ≡ Some fault → IsFirstFault accesses sorted fault
+finds_first : (accesses sorted : List Pair) (fault : ListFault) (between : Option (ℕ × ℕ)) (order : Option ℕ) → first_between pair_fault sorted ≡ between → pair_difference accesses sorted ≡ order → option_or (option_map (λ p. fault_at p.1 p.0) between) (option_map (λ row. fault_at 3 row) order) ≡ Some fault → IsFirstFault accesses sorted fault
 finds_first accesses sorted fault (Some p) order e g h =
     let is : fault_at p.1 p.0 ≡ fault = cc in
     let P : ListFault → Type 0 = IsFirstFault accesses sorted in
@@ -235,7 +235,7 @@ finds_first accesses sorted fault None None e g h = absurd (cc)
 
 pub first_fault_is : (accesses sorted : List Pair) (fault : ListFault) → first_memory_fault accesses sorted ≡ Some fault → IsFirstFault accesses sorted fault
 unfolding first_memory_fault
-first_fault_is accesses sorted fault e = finds_first accesses sorted fault (first_between pair_fault sorted) (order_fault accesses sorted) refl refl e
+first_fault_is accesses sorted fault e = finds_first accesses sorted fault (first_between pair_fault sorted) (pair_difference accesses sorted) refl refl e
 
 -- ---- what an answer says that is the first failure
 

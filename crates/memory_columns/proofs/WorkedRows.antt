@@ -6,7 +6,7 @@ use Rattle.sorted_lists.specs.Order.{in_order, with_item}
 use Rattle.sorted_lists.specs.Difference.{list_difference, shorter_end}
 use Rattle.sorted_lists.specs.Climbing.{climb, first_between}
 use Rattle.sorted_lists.specs.Gaps.{absent, gaps_between}
-use Rattle.memory_columns.specs.Equations.{m1, m2, pair_fault, order_fault, first_memory_fault, fault_at}
+use Rattle.memory_columns.specs.Equations.{m1, m2, pair_fault, first_memory_fault, fault_at}
 use Rattle.memory_columns.specs.OneMemory.{memory_of_pairs}
 use Rattle.memory_columns.specs.Filling.{unaccessed}
 
@@ -36,32 +36,32 @@ four_eight = cell 4 8 (lit< tt) (lit< tt)
 
 -- the addresses may wrap past p - 1
 addresses_wrap : first_memory_fault (wrap_first ∷ wrap_second ∷ []) (wrap_first ∷ wrap_second ∷ []) ≡ None
-unfolding first_memory_fault pair_fault order_fault m1 m2 climb field_sub field_mul first_between list_difference shorter_end in_order with_item
+unfolding first_memory_fault pair_fault m1 m2 climb field_sub field_mul first_between list_difference shorter_end in_order with_item
 addresses_wrap = refl
 
 nothing_at_all : first_memory_fault [] [] ≡ None
-unfolding first_memory_fault pair_fault order_fault m1 m2 climb field_sub field_mul first_between list_difference shorter_end in_order with_item
+unfolding first_memory_fault pair_fault m1 m2 climb field_sub field_mul first_between list_difference shorter_end in_order with_item
 nothing_at_all = refl
 
 two_values : first_memory_fault (one_five ∷ one_six ∷ []) (one_five ∷ one_six ∷ []) ≡ Some (fault_at 2 0)
-unfolding first_memory_fault pair_fault order_fault m1 m2 climb field_sub field_mul first_between list_difference shorter_end in_order with_item
+unfolding first_memory_fault pair_fault m1 m2 climb field_sub field_mul first_between list_difference shorter_end in_order with_item
 two_values = refl
 
 one_pair_short : first_memory_fault (one_five ∷ one_five ∷ []) (one_five ∷ []) ≡ Some (fault_at 3 1)
-unfolding first_memory_fault pair_fault order_fault m1 m2 climb field_sub field_mul first_between list_difference shorter_end in_order with_item
+unfolding first_memory_fault pair_fault m1 m2 climb field_sub field_mul first_between list_difference shorter_end in_order with_item
 one_pair_short = refl
 
 jump_by_two : first_memory_fault (one_five ∷ three_six ∷ []) (one_five ∷ three_six ∷ []) ≡ Some (fault_at 1 0)
-unfolding first_memory_fault pair_fault order_fault m1 m2 climb field_sub field_mul first_between list_difference shorter_end in_order with_item
+unfolding first_memory_fault pair_fault m1 m2 climb field_sub field_mul first_between list_difference shorter_end in_order with_item
 jump_by_two = refl
 
 step_down : first_memory_fault [] (one_five ∷ two_six ∷ one_five ∷ []) ≡ Some (fault_at 1 1)
-unfolding first_memory_fault pair_fault order_fault m1 m2 climb field_sub field_mul first_between list_difference shorter_end in_order with_item
+unfolding first_memory_fault pair_fault m1 m2 climb field_sub field_mul first_between list_difference shorter_end in_order with_item
 step_down = refl
 
 -- the other way round in the accesses
 other_order : first_memory_fault (two_six ∷ one_five ∷ []) (one_five ∷ two_six ∷ []) ≡ None
-unfolding first_memory_fault pair_fault order_fault m1 m2 climb field_sub field_mul first_between list_difference shorter_end in_order with_item
+unfolding first_memory_fault pair_fault m1 m2 climb field_sub field_mul first_between list_difference shorter_end in_order with_item
 other_order = refl
 
 first_place_is_read : memory_of_pairs (one_five ∷ one_six ∷ []) 1 ≡ Some 5

@@ -52,15 +52,15 @@ fault_at number row = record { number = number; row = row }
 unfoldable pub pair_fault : Pair → Pair → Option ℕ
 pair_fault x y = if m1 x y == 0 then (if m2 x y == 0 then None else Some 2) else Some 1
 
--- The first place where accesses and sorted pairs, each put in order, differ, or the length of the shorter list. Own.
-unfoldable pub order_fault : List Pair → List Pair → Option ℕ
-order_fault accesses sorted = list_difference is_same_pair (in_order pair_cmp accesses) (in_order pair_cmp sorted)
+-- The first place at which accesses and sorted pairs, each put in order, differ, or the length of the shorter list. Own.
+abbrev pub pair_difference : List Pair → List Pair → Option ℕ
+pair_difference accesses sorted = list_difference is_same_pair (in_order pair_cmp accesses) (in_order pair_cmp sorted)
 
 -- The first failure of M1 and M2, by row and then by number, or else that of M3. Own.
 unfoldable pub first_memory_fault : List Pair → List Pair → Option ListFault
 first_memory_fault accesses sorted =
     option_or (option_map (λ p. fault_at p.1 p.0) (first_between pair_fault sorted))
-    (option_map (λ row. fault_at 3 row) (order_fault accesses sorted))
+    (option_map (λ row. fault_at 3 row) (pair_difference accesses sorted))
 
 -- M1 and M2 hold between each pair and the next up to the pair at the row. Own.
 abbrev pub HoldsBefore : List Pair → ℕ → Type 0

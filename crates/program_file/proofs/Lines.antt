@@ -2,6 +2,7 @@
 use Rattle.std.proofs.Common.{◌≡◌, ℕ, List, [], length, nat_lt, nat_le, Some, None, Result, Ok, Err, IfOk, IfErr, ◌≢◌, codes, refl, sym, ◌∙◌}
 use Rattle.std.specs.Str.{bytes_eq}
 use Rattle.serde_json.specs.Data.{Data}
+use Rattle.casm_word.specs.Length.{most_words}
 use Rattle.json_fields.specs.Values.{json_of, text_at, list_at, whole_at}
 use Rattle.json_fields.specs.Faults.{◌>>=◌, needed, demand, in_turn}
 use Rattle.program_file.specs.declared.faults.ProgramKey.TheVariants as key
@@ -12,7 +13,6 @@ use Rattle.program_file.specs.Listing.{Listing, listing}
 use Rattle.program_file.specs.Format.{prime_text}
 use Rattle.program_file.specs.Reading.{reading, word_in, builtins_in}
 use Rattle.program_file.specs.Parts.{prime_part, words_part, builtins_part, bounds_part, value_part}
-use Rattle.program_file.specs.Limits.{most_words}
 
 assoc : {A B C F : Type 0} (m : Result A F) (f : A → Result B F) (g : B → Result C F) → (m >>= f) >>= g ≡ m >>= λ a. f a >>= g
 assoc (Ok a) f g = refl

@@ -3,8 +3,9 @@ use Rattle.std.proofs.Common.{◌≡◌, ◌≢◌, ℕ, ◌≤◌, List, [], le
 use Rattle.std.proofs.lemmas.Bool.{leb-true}
 use Rattle.std.proofs.lemmas.List.{length-map}
 use Rattle.std.proofs.lemmas.Slice.Eq.{bytes_eq-Decides}
-use Rattle.goldilocks.specs.declared.Felt.{Felt}
 use Rattle.serde_json.specs.Data.{Data}
+use Rattle.goldilocks.specs.declared.Felt.{Felt}
+use Rattle.casm_word.specs.Length.{most_words}
 use Rattle.json_fields.specs.Values.{felt_in}
 use Rattle.json_fields.specs.Faults.{needed, demand, in_turn}
 use Rattle.json_fields.proofs.Steps.{needed_then, demand_then, ok_then, in_turn_ok, in_turn_back}
@@ -15,7 +16,6 @@ use Rattle.program_file.specs.Listing.{Listing, listing}
 use Rattle.program_file.specs.Format.{SpellsProgram, prime_text}
 use Rattle.program_file.specs.Reading.{reading, word_in}
 use Rattle.program_file.proofs.BuiltinLists.{builtins_in-names, names-builtins_in}
-use Rattle.program_file.specs.Limits.{most_words}
 
 alone : (before : List Felt) (d : Data) → word_in before d ≡ needed (fault.Felt (length before)) (felt_in d)
 unfolding word_in

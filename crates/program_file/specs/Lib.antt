@@ -1,4 +1,3 @@
-pub mod Limits
 pub mod Listing
 pub mod Shown
 pub mod Format
@@ -8,3 +7,4 @@ pub use Rattle.json_fields.specs.Values
 pub use Rattle.json_fields.specs.FieldTexts
 pub use Rattle.json_fields.specs.Faults
 pub use Rattle.json_fields.specs.Encoding
+pub use Rattle.casm_word.specs.Length

@@ -1,9 +1,9 @@
 -- What a program file says: the words of a program, the places where it starts and ends, and its builtins.
 use Rattle.std.specs.Prelude.{ℕ, ◌<◌, ◌≤◌, List, length}
 use Rattle.goldilocks.specs.declared.Felt.{Felt}
+use Rattle.casm_word.specs.Length.{most_words}
 use Rattle.program_file.specs.declared.Builtins.{Builtins}
 use Rattle.program_file.specs.declared.Program.{Program}
-use Rattle.program_file.specs.Limits.{most_words}
 
 -- A program as a list of words, two places in it, and the builtins that it uses. Own.
 pub record Listing : Type 0 where

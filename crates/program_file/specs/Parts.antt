@@ -5,6 +5,7 @@ use Rattle.json.specs.Token as token
 use Rattle.json.specs.Written.{Written}
 use Rattle.serde_json.specs.Data.{Data}
 use Rattle.goldilocks.specs.declared.Felt.{Felt}
+use Rattle.casm_word.specs.Length.{most_words}
 use Rattle.json_fields.specs.Values.{text_at, list_at, whole_at}
 use Rattle.json_fields.specs.Faults.{◌>>=◌, needed, demand, in_turn}
 use Rattle.program_file.specs.declared.Builtins.{Builtins}
@@ -14,7 +15,6 @@ use Rattle.program_file.specs.declared.faults.ProgramFault.TheVariants as fault
 use Rattle.program_file.specs.Listing.{Listing}
 use Rattle.program_file.specs.Format.{prime_text}
 use Rattle.program_file.specs.Reading.{word_in, builtins_in}
-use Rattle.program_file.specs.Limits.{most_words}
 
 -- The lines on the field's order. Own.
 unfoldable pub prime_part : Data → Result ⊤ ProgramFault

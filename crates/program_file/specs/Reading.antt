@@ -4,6 +4,7 @@ use Rattle.std.specs.Str.{bytes_eq}
 use Rattle.serde_json.specs.Data.{Data}
 use Rattle.serde_json.specs.Find.{as_str}
 use Rattle.goldilocks.specs.declared.Felt.{Felt}
+use Rattle.casm_word.specs.Length.{most_words}
 use Rattle.json_fields.specs.Values.{json_of, text_at, list_at, whole_at, felt_in}
 use Rattle.json_fields.specs.Faults.{◌>>=◌, needed, demand, in_turn}
 use Rattle.program_file.specs.declared.Builtins.{Builtins}
@@ -12,7 +13,6 @@ use Rattle.program_file.specs.declared.faults.ProgramFault.{ProgramFault}
 use Rattle.program_file.specs.declared.faults.ProgramFault.TheVariants as fault
 use Rattle.program_file.specs.Listing.{Listing}
 use Rattle.program_file.specs.Format.{prime_text, builtin_names}
-use Rattle.program_file.specs.Limits.{most_words}
 
 -- Whether there is a text and it is this one. Own.
 abbrev pub is_same_text : List ℕ → Option (List ℕ) → Bool

@@ -26,7 +26,7 @@ pub enum ProgramFault {
     Key(ProgramKey),
     /// `prime` is another text than the field's order.
     Prime,
-    /// `data` has more than [`crate::WORD_LIMIT`] entries.
+    /// `data` has more than [`crate::MOST_WORDS`] entries.
     TooLong,
     /// The entry of `data` at this index is the first that is no number of the field as a text.
     Felt(u32),

@@ -2,20 +2,18 @@
 #![tactic(auto)]
 
 ghost use Rattle.std.specs.Prelude.{◌<◌, ◌≤◌, ◌^◌, length};
-ghost use Rattle.program_file.specs.Limits.{most_words};
+ghost use Rattle.casm_word.specs.Length.{most_words};
 
 mod faults;
 pub mod laws;
 mod reading;
 mod writing;
 
+pub use casm_word::MOST_WORDS;
 pub use faults::{ProgramFault, ProgramKey};
 use goldilocks::Felt;
 pub use reading::read;
 pub use writing::write;
-
-/// A program has at most this many words.
-pub const WORD_LIMIT: usize = 262_144;
 
 /// The builtins that a program uses.
 #[derive(Clone, Copy, Debug, PartialEq, Eq)]
@@ -26,7 +24,7 @@ pub struct Builtins {
     pub range: bool,
 }
 
-/// A program: 1 to [`WORD_LIMIT`] words, the place of its first instruction, the place where its run ends, and its
+/// A program: 1 to [`MOST_WORDS`] words, the place of its first instruction, the place where its run ends, and its
 /// builtins.
 ///
 /// Places count words from 0, and both lie below the number of words; the type keeps these bounds.
@@ -53,7 +51,7 @@ impl Program {
             ↔ IsProgram (record { words = words.items; start = start; end = end; builtins = builtins }) }
     {
         let count = words.len();
-        if count > WORD_LIMIT || start as usize >= count || end as usize >= count {
+        if count > MOST_WORDS || start as usize >= count || end as usize >= count {
             return None;
         }
         Some(Program {
@@ -64,7 +62,7 @@ impl Program {
         })
     }
 
-    /// Its words, 1 to [`WORD_LIMIT`] of them.
+    /// Its words, 1 to [`MOST_WORDS`] of them.
     pub fn words(&self) -> &[Felt]
         ensures { result.now ≡ (listing self.now).words }
     {

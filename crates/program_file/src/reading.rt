@@ -3,6 +3,7 @@
 ghost use Rattle.std.specs.Prelude.{◌≡◌, ◌≢◌, ◌≤◌, [], Ok, Err, IfOk, IfErr, map, length};
 ghost use Rattle.serde_json.specs.View.{view};
 ghost use Rattle.serde_json.specs.Find.{as_str};
+ghost use Rattle.casm_word.specs.Length.{most_words};
 ghost use Rattle.json_fields.specs.Faults.{in_turn};
 ghost use Rattle.program_file.specs.Listing.{Listing, listing};
 ghost use Rattle.program_file.specs.Format.{SpellsProgram};
@@ -10,9 +11,8 @@ ghost use Rattle.program_file.specs.Reading.{reading, word_in, is_same_text};
 ghost use Rattle.program_file.specs.Reading as lines;
 ghost use Rattle.program_file.specs.Parts.{prime_part, words_part, builtins_part, bounds_part, value_part};
 ghost use Rattle.program_file.specs.declared.faults.ProgramFault.{ProgramFault};
-ghost use Rattle.program_file.specs.Limits.{most_words};
 
-use crate::{Builtins, Program, ProgramFault, ProgramKey, WORD_LIMIT};
+use crate::{Builtins, MOST_WORDS, Program, ProgramFault, ProgramKey};
 use goldilocks::Felt;
 use json_fields::{felt_in, list_at, read_json, text_at, whole_at};
 use serde_json::Value;
@@ -72,7 +72,7 @@ fn read_prime(top: &Value) -> Result<(), ProgramFault>
     }
 }
 
-/// The words, at most [`WORD_LIMIT`] of them.
+/// The words, at most [`MOST_WORDS`] of them.
 #[tactic(auto, unfolding(crate::specs::Parts::words_part, json_fields::specs::Faults::needed, json_fields::specs::Faults::demand))]
 fn read_words(alloc: Global, top: &Value) -> Result<Vec<Felt>, ProgramFault>
     ensures words { IfOk result (λ words. words_part (view top.now) ≡ Ok words.items) }
@@ -82,7 +82,7 @@ fn read_words(alloc: Global, top: &Value) -> Result<Vec<Felt>, ProgramFault>
     let Some(texts) = list_at(top, "data") else {
         return Err(ProgramFault::Key(ProgramKey::Words));
     };
-    if texts.len() > WORD_LIMIT {
+    if texts.len() > MOST_WORDS {
         return Err(ProgramFault::TooLong);
     }
     read_entries(alloc, texts)

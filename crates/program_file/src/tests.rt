@@ -606,7 +606,7 @@ fn programs_keep_their_bounds(rt: HostRuntime) -> Result<(), Fail> {
             );
         }
     }
-    assert_eq!(rt; WORD_LIMIT, 262144);
+    assert_eq!(rt; MOST_WORDS, 262144);
     Ok(())
 }
 

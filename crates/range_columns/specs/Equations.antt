@@ -70,9 +70,13 @@ q2_fault sorted = option_map (λ p. fault_at p.1 p.0) (first_between step_fault 
 unfoldable pub q3_fault : List Felt → ℕ → Option RangeFault
 q3_fault sorted greatest = if is_number greatest (last_number sorted) then None else Some (fault_at 3 (length sorted - 1))
 
--- The failure of Q4, at the first place where the two ordered lists differ or at the length of the shorter one. Own.
+-- The first place at which values and sorted values, each put in order, differ, or the length of the shorter list. Own.
+abbrev pub range_difference : List Felt → List Felt → Option ℕ
+range_difference values sorted = list_difference is_same_felt (in_order felt_cmp values) (in_order felt_cmp sorted)
+
+-- The failure of Q4, at the first place where the two ordered lists differ, or at the length of the shorter one. Own.
 unfoldable pub q4_fault : List Felt → List Felt → Option RangeFault
-q4_fault values sorted = option_map (λ row. fault_at 4 row) (list_difference is_same_felt (in_order felt_cmp values) (in_order felt_cmp sorted))
+q4_fault values sorted = option_map (λ row. fault_at 4 row) (range_difference values sorted)
 
 -- The first failure in the order Q1, Q2 by row, Q3, Q4. Own.
 unfoldable pub first_range_fault : List Felt → List Felt → ℕ → ℕ → Option RangeFault

@@ -1,21 +1,21 @@
 -- The columns that the code sorts are those of the run.
-use Rattle.std.proofs.Common.{◌≡◌, ℕ, ◌<◌, ◌≤◌, ◌∙◌, List, [], ◌∷◌, length, map, Some, None, refl, sym, ap, ap₂, if◌then◌else◌, arith}
+use Rattle.std.proofs.Common.{◌≡◌, ℕ, ◌<◌, ◌≤◌, ◌∙◌, List, length, map, Some, None, sym, ap, ap₂, if◌then◌else◌, arith}
 use Rattle.std.proofs.lemmas.Bool.{lt-ltb, le-ltb}
 use Rattle.std.proofs.lemmas.List.{length-map}
 use Rattle.goldilocks.specs.declared.Felt.{Felt}
 use Rattle.goldilocks.specs.declared.Pair.{Pair}
 use Rattle.goldilocks.specs.Felts.{felt}
 use Rattle.casm_word.specs.Transition.{Memory}
-use Rattle.memory_columns.specs.Filling.{Spans, AreFillers, unaccessed, numbers_of, filler_at, most_fillers}
-use Rattle.memory_columns.proofs.Fillings.{map-map}
 use Rattle.program_file.specs.Listing.{Listing}
 use Rattle.public_input.specs.Statement.{Statement}
 use Rattle.public_input.specs.Valid.{addresses}
+use Rattle.memory_columns.specs.Filling.{Spans, AreFillers, unaccessed, numbers_of, filler_at, most_fillers}
+use Rattle.memory_columns.proofs.Fillings.{map-map}
 use Rattle.table_file.specs.Tables.{Contents}
 use Rattle.constraint_checker.specs.Lists.{cell, accesses}
 use Rattle.table_builder.specs.Columns.{least, greatest, cells_at, free_addresses}
 use Rattle.table_builder.specs.Findings.{TooWide, width_finding}
-use Rattle.table_builder.proofs.BuiltRow.{felt_back, felts_back}
+use Rattle.table_builder.proofs.Kept.{felts_kept, cells_kept}
 use Rattle.table_builder.proofs.Counts.{length-accesses}
 use Rattle.table_builder.proofs.Spans.{spans_least, spans_greatest}
 
@@ -23,16 +23,9 @@ use Rattle.table_builder.proofs.Spans.{spans_least, spans_greatest}
 abbrev as_pair : ℕ × ℕ → Pair
 as_pair p = cell (felt p.0) (felt p.1)
 
-pairs_back : (fill : List Pair) → map as_pair (map numbers_of fill) ≡ fill
-pairs_back [] = refl
-pairs_back (x ∷ fill) =
-    let addr = felt_back x.addr in
-    let value = felt_back x.value in
-    ap₂ (λ y ys. y ∷ ys) (λ i. record { addr = addr i; value = value i }) (pairs_back fill)
-
 cells_from_numbers : (m : Memory) (fill : List Pair) (free : List ℕ) → map numbers_of fill ≡ map (filler_at m) free → fill ≡ cells_at m free
 unfolding cells_at
-cells_from_numbers m fill free is = sym (pairs_back fill) ∙ (ap (map as_pair) is ∙ map-map as_pair (filler_at m) free)
+cells_from_numbers m fill free is = sym (cells_kept fill) ∙ (ap (map as_pair) is ∙ map-map as_pair (filler_at m) free)
 
 free_between : (cells : List Pair) (low high : ℕ) → Spans cells low high → free_addresses cells ≡ unaccessed cells low high
 unfolding free_addresses
@@ -56,7 +49,7 @@ too_wide accessed low high spans many =
     ∙ ap₂ (λ l h. Some (TooWide l h)) (spans_least accessed low high spans) (spans_greatest accessed low high spans)
 
 pub absent_built : (fill : List Felt) (absent : List ℕ) → map (λ x. x.number) fill ≡ absent → fill ≡ map felt absent
-absent_built fill absent is = sym (felts_back fill) ∙ ap (map felt) is
+absent_built fill absent is = sym (felts_kept fill) ∙ ap (map felt) is
 
 -- a program has a word, so some cell is accessed
 pub some_access : (program : Listing) (public : Statement) (tables : Contents) → program.start < length program.words → 0 < length (accesses program public tables)

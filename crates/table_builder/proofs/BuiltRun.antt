@@ -13,18 +13,18 @@ use Rattle.goldilocks.specs.declared.Pair.{Pair}
 use Rattle.goldilocks.specs.Felts.{felt}
 use Rattle.casm_word.specs.declared.State.{State}
 use Rattle.casm_word.specs.Transition.{Memory, Registers, registers}
-use Rattle.cpu_rows.specs.declared.Row.{Row}
 use Rattle.casm_word.specs.Run.{steps}
 use Rattle.casm_word.proofs.Runs.{length-steps}
+use Rattle.trace_files.specs.MemoryFile.{Cell, memory_of, as_cell, as_cells}
+use Rattle.trace_files.specs.TraceFile.{IsState}
+use Rattle.program_file.specs.Listing.{Listing}
+use Rattle.public_input.specs.Statement.{Statement}
+use Rattle.cpu_rows.specs.declared.Row.{Row}
 use Rattle.sorted_lists.specs.Order.{in_order}
 use Rattle.memory_columns.specs.Equations.{pair_cmp}
 use Rattle.range_columns.specs.Equations.{felt_cmp}
 use Rattle.range_columns.specs.Filling.{absent_values}
 use Rattle.range_columns.specs.declared.RangeRow.{RangeRow}
-use Rattle.trace_files.specs.MemoryFile.{Cell, memory_of, as_cell, as_cells}
-use Rattle.program_file.specs.Listing.{Listing}
-use Rattle.public_input.specs.Statement.{Statement}
-use Rattle.trace_files.specs.TraceFile.{IsState}
 use Rattle.table_file.specs.Tables.{Contents}
 use Rattle.constraint_checker.specs.Lists.{accesses, range_values}
 use Rattle.table_builder.specs.declared.faults.BuildFault.{BuildFault}
@@ -32,7 +32,7 @@ use Rattle.table_builder.specs.Rows.{row_at, as_row, rows_of, range_rows_of, las
 use Rattle.table_builder.specs.Columns.{unsorted, reads, small_values, free_addresses, cells_at, tables_of}
 use Rattle.table_builder.specs.Findings.{Finding, finding_of}
 use Rattle.table_builder.specs.Parts.{AreMemoryColumns, AreSmallColumns}
-use Rattle.table_builder.proofs.BuiltRow.{felt_back}
+use Rattle.table_builder.proofs.Kept.{state_kept}
 use Rattle.table_builder.proofs.EndFindings.{last_state}
 
 -- the fault of a part refuses the run, where what the part finds is what is found first
@@ -59,16 +59,8 @@ values_low (x ∷ cells) a v e = value_low x (x.addr.number == a) (find (λ c. c
 
 -- ---- before anything is sorted
 
-state_back : (s : State) → as_state (registers s) ≡ s
-unfolding registers
-state_back s =
-    let pc = felt_back s.pc in
-    let ap_ = felt_back s.ap in
-    let fp = felt_back s.fp in
-    λ i. record { pc = pc i; ap = ap_ i; fp = fp i }
-
 pub last_built : (states : List State) (s : State) → 2 ≤ length states → s ≡ get_or states (length states - 1) s → s ≡ as_state (last_of (map registers states))
-last_built states s some is = sym (ap as_state (last_state states some s is) ∙ state_back s)
+last_built states s some is = sym (ap as_state (last_state states some s is) ∙ state_kept s)
 
 pub unsorted_is : (public : Statement) (m : Memory) (states : List Registers) (t : Contents) (rows : List Row) (last : State) (range : List RangeRow) → t ≡ record { rows = rows; last = last; range = range; fillers = []; pairs = []; range_fillers = []; sorted_range = [] } → rows ≡ rows_of m states → last ≡ as_state (last_of states) → range ≡ range_rows_of public m → t ≡ unsorted public m states
 unfolding unsorted

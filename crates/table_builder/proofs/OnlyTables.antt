@@ -12,6 +12,9 @@ use Rattle.casm_word.specs.Transition.{Memory, Registers}
 use Rattle.casm_word.specs.Run.{steps}
 use Rattle.casm_word.proofs.RefusedRuns.{first_refused-none}
 use Rattle.casm_word.proofs.Runs.{length-steps}
+use Rattle.program_file.specs.Listing.{Listing}
+use Rattle.public_input.specs.Statement.{Statement}
+use Rattle.public_input.specs.Valid.{addresses}
 use Rattle.cpu_rows.specs.declared.Row.{Row}
 use Rattle.cpu_rows.specs.Columns.{Columns, columns}
 use Rattle.cpu_rows.specs.Steps.{IsRowOf}
@@ -25,9 +28,6 @@ use Rattle.range_columns.specs.declared.RangeRow.{RangeRow}
 use Rattle.range_columns.specs.Limbs.{IsSplitOf}
 use Rattle.range_columns.specs.Equations.{felt_cmp, IsWithin}
 use Rattle.range_columns.specs.Filling.{absent_values}
-use Rattle.program_file.specs.Listing.{Listing}
-use Rattle.public_input.specs.Statement.{Statement}
-use Rattle.public_input.specs.Valid.{addresses}
 use Rattle.table_file.specs.Tables.{Contents}
 use Rattle.constraint_checker.specs.Lists.{cell, cells_from, row_cells, program_cells, range_cells, accesses, row_offsets, limbs, range_values}
 use Rattle.table_builder.specs.Rows.{first_of, last_of, no_state, as_state, as_row, rows_of, range_address, limb_row, range_rows_of}
@@ -72,7 +72,7 @@ module _ (m : Memory) (public : Statement) where
       let behind = only_range (k + 1) rows (subst (λ a. All (Has m) (cells_from a values)) place later) split.1 in
       let here : m ((begin + k) % prime) ≡ Some r.value.number = All-head (Has m) (cell (felt (begin + k)) r.value) (cells_from (begin + k + 1) values) has in
       let same : unwrap_or (m ((begin + k) % prime)) 0 ≡ r.value.number = ap (λ o. unwrap_or o 0) here in (
-        ap₂ (λ x xs. x ∷ xs) (limbs_kept r split.0.1 ∙ ap limb_row (sym same)) behind.0,
+        ap₂ (λ x xs. x ∷ xs) (limbs_kept r.value.number r split.0.1 ∙ ap limb_row (sym same)) behind.0,
         All-cons (HasRange public m) k (range_with_len (k + 1) (length rows)) (r.value.number, here, split.0.0) behind.1,
       )
 

@@ -16,7 +16,8 @@ use Rattle.cpu_rows.specs.Columns.{Columns, columns}
 use Rattle.cpu_rows.specs.Steps.{IsRowOf}
 use Rattle.table_builder.specs.Rows.{row_at, as_row, rows_of}
 use Rattle.table_builder.specs.Findings.{Step, step_finding}
-use Rattle.table_builder.proofs.BuiltRow.{as_row-columns, row_at-row}
+use Rattle.table_builder.proofs.BuiltRow.{row_at-row}
+use Rattle.table_builder.proofs.Kept.{row_kept}
 
 -- the rows of the first steps
 abbrev pub rows_up_to : Memory → List State → ℕ → List Row
@@ -54,7 +55,7 @@ one_more_row m states i before row rows after positive within before_is of_step 
     ∙ (ap (λ rs. rs ++ row ∷ []) so_far
     ∙ sym (ap (map as_row) more
     ∙ (map-append as_row (filter_map h (take (i - 1) all)) (columns row ∷ [])
-    ∙ ap (λ r. rows_up_to m states (i - 1) ++ r ∷ []) (as_row-columns row))))
+    ∙ ap (λ r. rows_up_to m states (i - 1) ++ r ∷ []) (row_kept row))))
 
 pub all_rows : (m : Memory) (states : List State) (i : ℕ) (rows : List Row) → length states ≤ i → rows ≡ rows_up_to m states (i - 1) → rows ≡ rows_of m (map registers states)
 unfolding rows_of

@@ -4,6 +4,7 @@ use Rattle.std.proofs.lemmas.List.{map-append, get_or-append-add, take_at, take_
 use Rattle.std.specs.List.{flat_map}
 use Rattle.goldilocks.specs.declared.Felt.{Felt}
 use Rattle.goldilocks.specs.declared.Pair.{Pair}
+use Rattle.goldilocks.specs.Felts.{felt}
 use Rattle.goldilocks.proofs.Pairs.{same_felt}
 use Rattle.goldilocks.specs.FileNumbers.{number_bytes}
 use Rattle.casm_word.specs.declared.State.{State}
@@ -12,7 +13,7 @@ use Rattle.cpu_rows.specs.Columns.{columns, values, numbers}
 use Rattle.range_columns.specs.declared.RangeRow.{RangeRow}
 use Rattle.table_file.specs.FileNumbers.{numbers_bytes}
 use Rattle.table_file.specs.Spelling.{row_values, state_values, range_row_values, pair_values}
-use Rattle.table_file.specs.Reading.{items_in, values_of_bytes, value_of_bytes, felt_zero, row_of_values, state_of_values, range_row_of_values, pair_of_values, row_of_bytes, state_of_bytes, range_row_of_bytes, pair_of_bytes}
+use Rattle.table_file.specs.Reading.{items_in, values_of_bytes, value_of_bytes, row_of_values, state_of_values, range_row_of_values, pair_of_values, row_of_bytes, state_of_bytes, range_row_of_bytes, pair_of_bytes}
 use Rattle.table_file.proofs.ItemLists.{found_again, flat_map-map}
 use Rattle.table_file.proofs.GoodBytes.{IsGood, IsGood-fewer, spelled_back, felt_finds, felt_reads}
 
@@ -59,9 +60,9 @@ pub row_values-numbers : (r : Row) → row_values r ≡ numbers (row_felts r)
 unfolding values columns row_felts back_felts
 row_values-numbers r = rw map-append refl
 
-behind : (tilde back : List Felt) (k j : ℕ) → length tilde ≡ 16 → 16 + k ≡ j → get_or (tilde ++ back) j felt_zero ≡ get_or back k felt_zero
+behind : (tilde back : List Felt) (k j : ℕ) → length tilde ≡ 16 → 16 + k ≡ j → get_or (tilde ++ back) j (felt 0) ≡ get_or back k (felt 0)
 behind tilde back k j sixteen at =
-    ap (λ n. get_or (tilde ++ back) n felt_zero) (sym at ∙ ap (λ n. n + k) (sym sixteen)) ∙ get_or-append-add tilde back k felt_zero
+    ap (λ n. get_or (tilde ++ back) n (felt 0)) (sym at ∙ ap (λ n. n + k) (sym sixteen)) ∙ get_or-append-add tilde back k (felt 0)
 
 -- a row is that of its values
 row_of-row_felts : (r : Row) → length r.tilde ≡ 16 → row_of_values (row_felts r) ≡ r
@@ -69,19 +70,19 @@ unfolding row_of_values row_felts back_felts
 row_of-row_felts r sixteen =
     let back = back_felts r in
     let tilde : take 16 (r.tilde ++ back) ≡ r.tilde = take_at r.tilde back 16 sixteen in
-    let e0 : get_or (r.tilde ++ back) 16 felt_zero ≡ r.off_dst = behind r.tilde back 0 16 sixteen refl in
-    let e1 : get_or (r.tilde ++ back) 17 felt_zero ≡ r.off_op0 = behind r.tilde back 1 17 sixteen refl in
-    let e2 : get_or (r.tilde ++ back) 18 felt_zero ≡ r.off_op1 = behind r.tilde back 2 18 sixteen refl in
-    let e3 : get_or (r.tilde ++ back) 19 felt_zero ≡ r.dst_addr = behind r.tilde back 3 19 sixteen refl in
-    let e4 : get_or (r.tilde ++ back) 20 felt_zero ≡ r.op0_addr = behind r.tilde back 4 20 sixteen refl in
-    let e5 : get_or (r.tilde ++ back) 21 felt_zero ≡ r.op1_addr = behind r.tilde back 5 21 sixteen refl in
-    let e6 : get_or (r.tilde ++ back) 22 felt_zero ≡ r.dst = behind r.tilde back 6 22 sixteen refl in
-    let e7 : get_or (r.tilde ++ back) 23 felt_zero ≡ r.op0 = behind r.tilde back 7 23 sixteen refl in
-    let e8 : get_or (r.tilde ++ back) 24 felt_zero ≡ r.op1 = behind r.tilde back 8 24 sixteen refl in
-    let e9 : get_or (r.tilde ++ back) 25 felt_zero ≡ r.mul = behind r.tilde back 9 25 sixteen refl in
-    let e10 : get_or (r.tilde ++ back) 26 felt_zero ≡ r.res = behind r.tilde back 10 26 sixteen refl in
-    let e11 : get_or (r.tilde ++ back) 27 felt_zero ≡ r.t0 = behind r.tilde back 11 27 sixteen refl in
-    let e12 : get_or (r.tilde ++ back) 28 felt_zero ≡ r.t1 = behind r.tilde back 12 28 sixteen refl in
+    let e0 : get_or (r.tilde ++ back) 16 (felt 0) ≡ r.off_dst = behind r.tilde back 0 16 sixteen refl in
+    let e1 : get_or (r.tilde ++ back) 17 (felt 0) ≡ r.off_op0 = behind r.tilde back 1 17 sixteen refl in
+    let e2 : get_or (r.tilde ++ back) 18 (felt 0) ≡ r.off_op1 = behind r.tilde back 2 18 sixteen refl in
+    let e3 : get_or (r.tilde ++ back) 19 (felt 0) ≡ r.dst_addr = behind r.tilde back 3 19 sixteen refl in
+    let e4 : get_or (r.tilde ++ back) 20 (felt 0) ≡ r.op0_addr = behind r.tilde back 4 20 sixteen refl in
+    let e5 : get_or (r.tilde ++ back) 21 (felt 0) ≡ r.op1_addr = behind r.tilde back 5 21 sixteen refl in
+    let e6 : get_or (r.tilde ++ back) 22 (felt 0) ≡ r.dst = behind r.tilde back 6 22 sixteen refl in
+    let e7 : get_or (r.tilde ++ back) 23 (felt 0) ≡ r.op0 = behind r.tilde back 7 23 sixteen refl in
+    let e8 : get_or (r.tilde ++ back) 24 (felt 0) ≡ r.op1 = behind r.tilde back 8 24 sixteen refl in
+    let e9 : get_or (r.tilde ++ back) 25 (felt 0) ≡ r.mul = behind r.tilde back 9 25 sixteen refl in
+    let e10 : get_or (r.tilde ++ back) 26 (felt 0) ≡ r.res = behind r.tilde back 10 26 sixteen refl in
+    let e11 : get_or (r.tilde ++ back) 27 (felt 0) ≡ r.t0 = behind r.tilde back 11 27 sixteen refl in
+    let e12 : get_or (r.tilde ++ back) 28 (felt 0) ≡ r.t1 = behind r.tilde back 12 28 sixteen refl in
     λ i. record {
       pc = r.pc;
       ap = r.ap;

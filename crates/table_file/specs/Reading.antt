@@ -1,7 +1,6 @@
 -- The tables that bytes can spell: what stands at the places of a tables file.
 use Rattle.std.specs.Prelude.{ℕ, zero, suc, ◌+◌, ◌*◌, List, [], ◌∷◌, take, drop, slice_index_or, Option, Some, None, Result, Ok, Err}
 use Rattle.std.specs.Int.{w64, from_le_bytes}
-use Rattle.std.proofs.Common.{lit<}
 use Rattle.goldilocks.specs.declared.Felt.{Felt}
 use Rattle.goldilocks.specs.declared.Pair.{Pair}
 use Rattle.goldilocks.specs.Felts.{felt}
@@ -17,17 +16,13 @@ unfoldable pub items_in : {X : Type 0} → ℕ → (List ℕ → X) → ℕ → 
 items_in size item zero bytes = []
 items_in size item (suc n) bytes = item (take size bytes) ∷ items_in size item n (drop size bytes)
 
--- The number 0 of the field. Own.
-unfoldable pub felt_zero : Felt
-felt_zero = record { number = 0; in_field = lit< tt }
-
 -- The value of eight bytes: their number, modulo p. Own.
 unfoldable pub value_of_bytes : List ℕ → Felt
 value_of_bytes bytes = felt (from_le_bytes w64 bytes)
 
--- Value k of a list of values. Own.
+-- Value k of a list of values, or 0 where there is none. Own.
 abbrev pub value_at : List Felt → ℕ → Felt
-value_at values k = slice_index_or values k felt_zero
+value_at values k = slice_index_or values k (felt 0)
 
 -- The values of these many bytes, eight for each. Own.
 abbrev pub values_of_bytes : ℕ → List ℕ → List Felt

@@ -1,4 +1,5 @@
-use Rattle.cairo_commands.specs.Reply.{request_of, texts}
+use Rattle.call_words.specs.Names.{texts}
+use Rattle.cairo_commands.specs.Reply.{request_of}
 use Rattle.cairo_commands.proofs.Evidence.{IfSome-held}
 use Rattle.cairo_commands.proofs.Evidence.{Evidence-of_call, Leaves-of_call, Replied-of_call}
 use Rattle.cairo_commands.proofs.AskedNames.{KeepsNames-asked}

@@ -4,16 +4,17 @@ use Rattle.std.specs.Prelude.{◌≡◌, ◌↔◌, ◌≤◌, ℕ, List, [], �
 use Rattle.std.specs.Fmt.{decimal}
 use Rattle.std.specs.FinMap.{insert}
 use Rattle.std.specs.Io.KnownBytes.{Appends}
-use Rattle.file_port.specs.Files.{Name, Files, file_at}
 use Rattle.casm_statements.specs.declared.Item.{Item}
 use Rattle.casm_text.specs.Meaning.{Reads}
 use Rattle.assembler.specs.Faults.{HasNoFault}
 use Rattle.assembler.specs.Assembling.{Assembly, assembly_of}
 use Rattle.program_file.specs.Format.{written}
+use Rattle.file_port.specs.Files.{Name, Files, file_at}
+use Rattle.call_words.specs.Names.{are_names}
 use Rattle.cairo_commands.specs.declared.status.Status.{Status}
 use Rattle.cairo_commands.specs.declared.status.Status.TheVariants.{Done}
 use Rattle.cairo_commands.specs.Answer.{Answer, Input, Task}
-use Rattle.cairo_commands.specs.Request.{Request, Asm, are_names}
+use Rattle.cairo_commands.specs.Request.{Request, Asm}
 use Rattle.cairo_commands.specs.Reading.{◌>>=◌, answered, read_as}
 use Rattle.cairo_commands.specs.Programs.{text_limit, text_input, text_read, listing_of}
 

@@ -3,7 +3,6 @@
 use Rattle.std.specs.Prelude.{◌≡◌, ◌↔◌, ℕ, List, [], ◌∷◌, ◌++◌, length, Option, Some, None, Ok, if◌then◌else◌, codes}
 use Rattle.std.specs.Fmt.{decimal}
 use Rattle.std.specs.Io.KnownBytes.{Appends}
-use Rattle.file_port.specs.Files.{Name, Files}
 use Rattle.constraint_checker.specs.declared.Constraint.{Constraint}
 use Rattle.constraint_checker.specs.declared.Verdict.{Verdict}
 use Rattle.constraint_checker.specs.declared.Verdict.TheVariants as verdict_is
@@ -11,10 +10,12 @@ use Rattle.constraint_checker.specs.Shown.{constraint_name}
 use Rattle.constraint_checker.specs.Constraints.{MeetsAll}
 use Rattle.constraint_checker.specs.Verdict.{verdict}
 use Rattle.constraint_checker.specs.Acceptance.{DescribeRun}
+use Rattle.file_port.specs.Files.{Name, Files}
+use Rattle.call_words.specs.Names.{are_names}
 use Rattle.cairo_commands.specs.declared.status.Status.{Status}
 use Rattle.cairo_commands.specs.declared.status.Status.TheVariants.{Done, Refused}
 use Rattle.cairo_commands.specs.Answer.{Answer, Input, Task, says}
-use Rattle.cairo_commands.specs.Request.{Request, Check, are_names}
+use Rattle.cairo_commands.specs.Request.{Request, Check}
 use Rattle.cairo_commands.specs.Reading.{◌>>=◌, answered, read_as}
 use Rattle.cairo_commands.specs.Programs.{program_input, program_read, HoldsProgram}
 use Rattle.cairo_commands.specs.TableInputs.{public_input, public_read, HoldsPublic, tables_input, tables_read, HoldsColumns}

@@ -4,15 +4,16 @@ use Rattle.std.specs.Prelude.{◌≡◌, ◌↔◌, ℕ, List, [], ◌∷◌, �
 use Rattle.std.specs.Fmt.{decimal}
 use Rattle.std.specs.FinMap.{insert}
 use Rattle.std.specs.Io.KnownBytes.{Appends}
-use Rattle.file_port.specs.Files.{Name, Files}
 use Rattle.casm_statements.specs.declared.Item.{Item}
 use Rattle.casm_text.specs.Canonical.{printed}
 use Rattle.assembler.specs.Disassembly.{Disassembles}
 use Rattle.program_file.specs.Listing.{Listing}
+use Rattle.file_port.specs.Files.{Name, Files}
+use Rattle.call_words.specs.Names.{are_names}
 use Rattle.cairo_commands.specs.declared.status.Status.{Status}
 use Rattle.cairo_commands.specs.declared.status.Status.TheVariants.{Done}
 use Rattle.cairo_commands.specs.Answer.{Answer, Input, Task}
-use Rattle.cairo_commands.specs.Request.{Request, Dis, are_names}
+use Rattle.cairo_commands.specs.Request.{Request, Dis}
 use Rattle.cairo_commands.specs.Reading.{◌>>=◌, answered, read_as}
 use Rattle.cairo_commands.specs.Programs.{program_input, program_read, HoldsProgram, items_of}
 

@@ -4,7 +4,6 @@ use Rattle.std.specs.Prelude.{◌≡◌, ◌↔◌, ℕ, List, [], ◌∷◌, �
 use Rattle.std.specs.Fmt.{decimal}
 use Rattle.std.specs.FinMap.{insert}
 use Rattle.std.specs.Io.KnownBytes.{Appends}
-use Rattle.file_port.specs.Files.{Name, Files}
 use Rattle.trace_files.specs.MemoryFile.{memory_of}
 use Rattle.table_file.specs.Tables.{Contents}
 use Rattle.table_file.specs.Spelling.{spelling}
@@ -12,10 +11,12 @@ use Rattle.table_builder.specs.TablesOf.{AreTablesOf}
 use Rattle.table_builder.specs.Findings.{Finding, FoundFirst, findings}
 use Rattle.table_builder.specs.Building.{building}
 use Rattle.table_builder.specs.Shown.{finding_text}
+use Rattle.file_port.specs.Files.{Name, Files}
+use Rattle.call_words.specs.Names.{are_names}
 use Rattle.cairo_commands.specs.declared.status.Status.{Status}
 use Rattle.cairo_commands.specs.declared.status.Status.TheVariants.{Done, Refused}
 use Rattle.cairo_commands.specs.Answer.{Answer, Input, Task, says}
-use Rattle.cairo_commands.specs.Request.{Request, Tables, are_names}
+use Rattle.cairo_commands.specs.Request.{Request, Tables}
 use Rattle.cairo_commands.specs.Reading.{◌>>=◌, answered, read_as}
 use Rattle.cairo_commands.specs.Programs.{program_input, program_read, HoldsProgram}
 use Rattle.cairo_commands.specs.TableInputs.{public_input, public_read, HoldsPublic}

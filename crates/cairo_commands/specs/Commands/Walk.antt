@@ -3,15 +3,16 @@
 use Rattle.std.specs.Prelude.{◌≡◌, ◌≢◌, ◌↔◌, ℕ, ◌-◌, All, List, [], ◌∷◌, ◌++◌, length, take, slice_get, Option, Some, None, Ok, if◌then◌else◌, codes}
 use Rattle.std.specs.Fmt.{decimal}
 use Rattle.std.specs.Io.KnownBytes.{Appends}
-use Rattle.file_port.specs.Files.{Name, Files}
 use Rattle.casm_word.specs.Transition.{Registers, Outcome, outcome, next}
 use Rattle.casm_word.specs.Run.{steps, LegalRun, first_refused}
-use Rattle.cairo_commands.specs.declared.status.Status.{Status}
-use Rattle.cairo_commands.specs.declared.status.Status.TheVariants.{Done, Refused}
 use Rattle.casm_word.specs.Text.{step_text}
 use Rattle.trace_files.specs.MemoryFile.{memory_of}
+use Rattle.file_port.specs.Files.{Name, Files}
+use Rattle.call_words.specs.Names.{are_names}
+use Rattle.cairo_commands.specs.declared.status.Status.{Status}
+use Rattle.cairo_commands.specs.declared.status.Status.TheVariants.{Done, Refused}
 use Rattle.cairo_commands.specs.Answer.{Answer, Input, Task, says}
-use Rattle.cairo_commands.specs.Request.{Request, Walk, are_names}
+use Rattle.cairo_commands.specs.Request.{Request, Walk}
 use Rattle.cairo_commands.specs.Reading.{◌>>=◌, answered, read_as}
 use Rattle.cairo_commands.specs.RunFiles.{trace_input, trace_read, HoldsTrace, memory_input, cells_read, HoldsMemory}
 

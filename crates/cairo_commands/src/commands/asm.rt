@@ -1,13 +1,14 @@
 //! `asm TEXT PROGRAM`: an assembly text is assembled to a program file.
 
 ghost use Rattle.std.specs.Prelude.{◌≡◌, IfSome, IfOk, option_map, string_bytes};
+ghost use Rattle.call_words.specs.Names.{texts};
 ghost use Rattle.cairo_commands.specs.Commands.Asm as spec;
-ghost use Rattle.cairo_commands.specs.Reply.{texts};
 ghost use Rattle.cairo_commands.specs.Parts.{WorksOut, Uses, request};
 
 use crate::ending::{Refusal, Work};
 use crate::programs::{program_bytes, text_input};
-use crate::words::{Command, are_names};
+use crate::words::Command;
+use call_words::are_names;
 use file_port::Store;
 use std::alloc::{AllocError, Global};
 

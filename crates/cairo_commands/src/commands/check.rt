@@ -1,14 +1,15 @@
 //! `check PROGRAM PUBLIC TABLES`: do tables meet every written constraint, and so describe a run of the program?
 
 ghost use Rattle.std.specs.Prelude.{◌≡◌, IfSome, IfOk, option_map, string_bytes};
+ghost use Rattle.call_words.specs.Names.{texts};
 ghost use Rattle.cairo_commands.specs.Commands.Check as spec;
-ghost use Rattle.cairo_commands.specs.Reply.{texts};
 ghost use Rattle.cairo_commands.specs.Parts.{WorksOut, Uses, request};
 
 use crate::ending::{Refusal, Work};
 use crate::programs::program_input;
 use crate::table_inputs::{public_input, tables_input};
-use crate::words::{Command, are_names};
+use crate::words::Command;
+use call_words::are_names;
 use constraint_checker::{Constraint, Verdict};
 use file_port::Store;
 use std::alloc::{AllocError, Global};

@@ -4,15 +4,16 @@ ghost use Rattle.std.specs.Prelude.{◌≡◌, ◌∷◌, [], IfSome, IfOk, leng
 ghost use Rattle.table_file.specs.Tables.{contents, AreValid};
 ghost use Rattle.table_file.specs.Spelling.{spelling};
 ghost use Rattle.table_builder.specs.Findings.{finding_of};
+ghost use Rattle.call_words.specs.Names.{texts};
 ghost use Rattle.cairo_commands.specs.Commands.Tables as spec;
-ghost use Rattle.cairo_commands.specs.Reply.{texts};
 ghost use Rattle.cairo_commands.specs.Parts.{WorksOut, Uses, TellsFinding, request, outputs_in};
 
 use crate::ending::{Refusal, Work};
 use crate::programs::program_input;
 use crate::run_files::{memory_input, trace_input};
 use crate::table_inputs::public_input;
-use crate::words::{Command, are_names};
+use crate::words::Command;
+use call_words::are_names;
 use file_port::Store;
 use std::alloc::{AllocError, Global};
 use table_builder::BuildFault;

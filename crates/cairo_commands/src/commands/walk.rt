@@ -5,13 +5,14 @@ ghost use Rattle.casm_word.specs.Transition.{outcome_of, registers};
 ghost use Rattle.casm_word.specs.Run.{first_refused, is_next};
 ghost use Rattle.trace_files.specs.MemoryFile.{memory_of, as_cells};
 ghost use Rattle.trace_files.specs.CellList.{listed};
+ghost use Rattle.call_words.specs.Names.{texts};
 ghost use Rattle.cairo_commands.specs.Commands.Walk as spec;
-ghost use Rattle.cairo_commands.specs.Reply.{texts};
 ghost use Rattle.cairo_commands.specs.Parts.{WorksOut, Uses, request};
 
 use crate::ending::{Refusal, Work};
 use crate::run_files::{memory_input, trace_input};
-use crate::words::{Command, are_names};
+use crate::words::Command;
+use call_words::are_names;
 use casm_word::{State, StepResult, step};
 use file_port::Store;
 use std::alloc::{AllocError, Global};

@@ -1,7 +1,7 @@
 use Rattle.std.proofs.Common.{◌≤◌, ◌∙◌, arith}
+use Rattle.casm_word.specs.Length.{most_words}
 use Rattle.casm_text.specs.Meaning.{bodies}
 use Rattle.assembler.specs.Assembly.{word_count}
-use Rattle.assembler.specs.Faults.{most_words}
 use Rattle.assembler.proofs.AssemblyLemmas.{labels_held}
 use Rattle.assembler.proofs.assembling.labels_and_count.Goals as goal
 

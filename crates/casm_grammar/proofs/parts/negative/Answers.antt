@@ -1,6 +1,6 @@
 use Rattle.std.proofs.Common.{sym, ap, ◌∙◌}
 use Rattle.goldilocks.specs.Felts.{felt}
-use Rattle.casm_tokens.proofs.Numbers.{felt-number}
+use Rattle.goldilocks.proofs.Pairs.{felt-number}
 use Rattle.casm_grammar.specs.Grammar.{negative}
 use Rattle.casm_grammar.proofs.parts.negative.Goals as goal
 

@@ -1,6 +1,6 @@
 use Rattle.std.proofs.Common.{◌≡◌, rules, sym, ◌∙◌, refl}
 use Rattle.std.specs.Option.{option_map}
-use Rattle.memory_columns.specs.Equations.{first_memory_fault, order_fault, fault_at}
+use Rattle.memory_columns.specs.Equations.{first_memory_fault, fault_at}
 use Rattle.memory_columns.proofs.Cells.{pair_equal}
 use Rattle.memory_columns.proofs.OneMemory.{one_memory, none_is, none_of_fault, first_of_fault}
 use Rattle.memory_columns.proofs.checking.memory_fault.Goals as goal
@@ -14,7 +14,7 @@ unfolding first_memory_fault
 returns-in-Some-clause-fault c = rw (← c.neighbours_fault.ensures) (rw c.in-Some.is refl)
 
 fault_is : (c : After-map) → c.map.result ≡ first_memory_fault c.args.accesses.items c.args.sorted.now
-unfolding first_memory_fault order_fault
+unfolding first_memory_fault
 fault_is c =
     let third : c.map.result ≡ option_map (λ row. fault_at 3 row) c.in_ok-place.place = search rules in
     rw (← c.neighbours_fault.ensures) (rw (c.in_default.is, ← c.in_ok-place.ensures) third)

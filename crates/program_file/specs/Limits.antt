@@ -1,6 +1,0 @@
--- How long a program may be.
-use Rattle.std.specs.Prelude.{ℕ, ◌^◌}
-
--- The most words of a program. Own.
-abbrev pub most_words : ℕ
-most_words = 2 ^ 18
