@@ -12,7 +12,7 @@ use Rattle.goldilocks.specs.Felts.{felt}
 use Rattle.goldilocks.proofs.Pairs.{felt-number}
 use Rattle.casm_word.specs.declared.Word.{Word}
 use Rattle.casm_word.specs.Word.{word_number}
-use Rattle.casm_word.specs.Length.{most_words}
+use Rattle.casm_word.specs.Length.{program_word_limit}
 use Rattle.casm_statements.specs.declared.Stmt.{Stmt}
 use Rattle.casm_statements.specs.declared.Body.{Body}
 use Rattle.casm_statements.specs.declared.Body.TheVariants as body
@@ -104,7 +104,7 @@ words_from-length labels place (b ∷ bs) =
     omega arith
 
 -- labels whose values `u32` can hold are held as they are
-capped_from : (place : ℕ) (bs : List Body) → place + word_count bs ≤ most_words → map capped_label (labels_from place bs) ≡ labels_from place bs
+capped_from : (place : ℕ) (bs : List Body) → place + word_count bs ≤ program_word_limit → map capped_label (labels_from place bs) ≡ labels_from place bs
 capped_from place [] h = refl
 capped_from place (b ∷ bs) h =
     let c = sum_by-cons body_size b bs in
@@ -112,11 +112,11 @@ capped_from place (b ∷ bs) h =
     ∙ (ap (λ (ls : List (List ℕ × ℕ)). ls ++ map capped_label (labels_from (place + body_size b) bs)) (one (label_in b) (omega arith))
     ∙ ap (λ (ls : List (List ℕ × ℕ)). label_at place (label_in b) ++ ls) (capped_from (place + body_size b) bs (omega arith)))
   where
-    one : (o : Option (List ℕ)) → place ≤ most_words → map capped_label (label_at place o) ≡ label_at place o
+    one : (o : Option (List ℕ)) → place ≤ program_word_limit → map capped_label (label_at place o) ≡ label_at place o
     one None l = refl
     one (Some n) l = let e : min place 4294967295 ≡ place = omega arith in ap (λ (k : ℕ). (n, k) ∷ []) e
 
-pub labels_held : (bs : List Body) → word_count bs ≤ most_words → map capped_label (labels_of bs) ≡ labels_of bs
+pub labels_held : (bs : List Body) → word_count bs ≤ program_word_limit → map capped_label (labels_of bs) ≡ labels_of bs
 labels_held bs h = capped_from 0 bs (omega arith)
 
 -- a name is among the labels that are held where it is among the labels
@@ -185,7 +185,7 @@ written_more labels items n i before after h at e pushed =
     ∙ (sym (words_from_start-more labels (bodies (take n items)) i.body)
     ∙ ap (words_from labels 0) (sym (bodies-more items n i h at)))))
 
-pub written_fits : (labels : List (List ℕ × ℕ)) (items : List Item) (n : ℕ) (before : List Felt) → before ≡ words_from labels 0 (bodies (take n items)) → word_count (bodies items) ≤ most_words → length before ≤ most_words
+pub written_fits : (labels : List (List ℕ × ℕ)) (items : List Item) (n : ℕ) (before : List Felt) → before ≡ words_from labels 0 (bodies (take n items)) → word_count (bodies items) ≤ program_word_limit → length before ≤ program_word_limit
 written_fits labels items n before e h =
     let count : length before ≡ word_count (bodies (take n items)) = ap length e ∙ words_from-length labels 0 (bodies (take n items)) in
     omega (arith, word_count-take items n)

@@ -42,7 +42,7 @@ decoded-below n w h =
     let low : nat_lt n (2 ^ 63) ≡ true = decoded_low (nat_lt n (2 ^ 63)) (first_broken (flags_of n)) (word_of n) w h in
     grind (arith, nat_tests)
 
-decoded-word : (n : ℕ) (w : Word) → decoding n ≡ Ok w → word_of n ≡ w
+pub decoded-word : (n : ℕ) (w : Word) → decoding n ≡ Ok w → word_of n ≡ w
 unfolding decoding
 decoded-word n w h = decoded_as (nat_lt n (2 ^ 63)) (first_broken (flags_of n)) (word_of n) w h
 
@@ -58,7 +58,7 @@ fits_from a h = elim (cases_lt a (2 ^ 15)) [
       subst (λ (z : ℤ). FitsSigned w16 z) (sym e) f
 ]
 
-offset-fits : (n k : ℕ) → FitsSigned w16 (offset n k)
+pub offset-fits : (n k : ℕ) → FitsSigned w16 (offset n k)
 offset-fits n k = fits_from ((n / 2 ^ k) % 2 ^ 16) (mod-lt (n / 2 ^ k) (lit< tt))
 
 -- the words begin with this one and with the statement's immediate, if it has one

@@ -1,7 +1,7 @@
 -- The first fault of items, and items that have none.
 use Rattle.std.proofs.Common.{◌≡◌, ℕ, ◌<◌, ◌≤◌, List, find, Some, None, sym, ◌∙◌, subst, arith}
 use Rattle.std.proofs.lemmas.Option.{none-some}
-use Rattle.casm_word.specs.Length.{most_words}
+use Rattle.casm_word.specs.Length.{program_word_limit}
 use Rattle.casm_statements.specs.declared.Item.{Item}
 use Rattle.casm_text.specs.Meaning.{bodies}
 use Rattle.assembler.specs.declared.fault.AsmFault.{AsmFault}
@@ -14,14 +14,14 @@ use Rattle.assembler.proofs.Unknowns.{names_unknown}
 -- items without a fault, by what has to be shown of each
 pub record Sound (items : List Item) : Type 0 where
   pub new : (k : ℕ) (i : Item) → RepeatsAt items k i → ⊥
-  pub short : word_count (bodies items) ≤ most_words
+  pub short : word_count (bodies items) ≤ program_word_limit
   pub known : find (names_unknown (labels_of (bodies items))) items ≡ None
   pub has_end : first_given end_in (bodies items) ≡ None → ⊥
   pub start_inside : start_place (bodies items) < word_count (bodies items)
   pub end_inside : end_place (bodies items) < word_count (bodies items)
 
 -- none of the faults below a rank is there
-pub none_before : (items : List Item) (n : ℕ) → (0 < n → (k : ℕ) (i : Item) → RepeatsAt items k i → ⊥) → (1 < n → word_count (bodies items) ≤ most_words) → (2 < n → find (names_unknown (labels_of (bodies items))) items ≡ None) → (3 < n → first_given end_in (bodies items) ≡ None → ⊥) → (4 < n → start_place (bodies items) < word_count (bodies items)) → (5 < n → end_place (bodies items) < word_count (bodies items)) → (f : AsmFault) → rank f < n → HasAsmFault items f → ⊥
+pub none_before : (items : List Item) (n : ℕ) → (0 < n → (k : ℕ) (i : Item) → RepeatsAt items k i → ⊥) → (1 < n → word_count (bodies items) ≤ program_word_limit) → (2 < n → find (names_unknown (labels_of (bodies items))) items ≡ None) → (3 < n → first_given end_in (bodies items) ≡ None → ⊥) → (4 < n → start_place (bodies items) < word_count (bodies items)) → (5 < n → end_place (bodies items) < word_count (bodies items)) → (f : AsmFault) → rank f < n → HasAsmFault items f → ⊥
 none_before items n new short known has_end start_inside end_inside (Duplicate line) low h = new low h.at h.item h.repeats
 none_before items n new short known has_end start_inside end_inside TooLong low h = let m = short low in omega arith
 none_before items n new short known has_end start_inside end_inside (Unknown name line) low h = none-some h.item (sym (known low) ∙ h.found)
@@ -53,13 +53,13 @@ repeat_told items StartOutside h = absurd h
 repeat_told items EndOutside h = absurd h
 repeat_told items Memory h = tt
 
-pub length_told : (items : List Item) → ((k : ℕ) (i : Item) → RepeatsAt items k i → ⊥) → most_words < word_count (bodies items) → IsFirstFault items TooLong
+pub length_told : (items : List Item) → ((k : ℕ) (i : Item) → RepeatsAt items k i → ⊥) → program_word_limit < word_count (bodies items) → IsFirstFault items TooLong
 length_told items new h = record {
   holds = h;
   first = none_before items 1 (λ low. new) (λ low. absurd (omega arith)) (λ low. absurd (omega arith)) (λ low. absurd (omega arith)) (λ low. absurd (omega arith)) (λ low. absurd (omega arith));
 }
 
-pub unknown_told : (items : List Item) (labels : List (List ℕ × ℕ)) (f : AsmFault) → labels ≡ labels_of (bodies items) → ((k : ℕ) (i : Item) → RepeatsAt items k i → ⊥) → word_count (bodies items) ≤ most_words → TellsFirstUnknown labels items f → TellsFault items f
+pub unknown_told : (items : List Item) (labels : List (List ℕ × ℕ)) (f : AsmFault) → labels ≡ labels_of (bodies items) → ((k : ℕ) (i : Item) → RepeatsAt items k i → ⊥) → word_count (bodies items) ≤ program_word_limit → TellsFirstUnknown labels items f → TellsFault items f
 unknown_told items labels (Duplicate line) e new short h = absurd h
 unknown_told items labels TooLong e new short h = absurd h
 unknown_told items labels (Unknown name line) e new short h = record {
@@ -76,7 +76,7 @@ unknown_told items labels StartOutside e new short h = absurd h
 unknown_told items labels EndOutside e new short h = absurd h
 unknown_told items labels Memory e new short h = tt
 
-pub place_told : (items : List Item) (labels : List (List ℕ × ℕ)) (count : ℕ) (f : AsmFault) → labels ≡ labels_of (bodies items) → count ≡ word_count (bodies items) → ((k : ℕ) (i : Item) → RepeatsAt items k i → ⊥) → word_count (bodies items) ≤ most_words → find (names_unknown labels) items ≡ None → TellsPlace labels items count f → TellsFault items f
+pub place_told : (items : List Item) (labels : List (List ℕ × ℕ)) (count : ℕ) (f : AsmFault) → labels ≡ labels_of (bodies items) → count ≡ word_count (bodies items) → ((k : ℕ) (i : Item) → RepeatsAt items k i → ⊥) → word_count (bodies items) ≤ program_word_limit → find (names_unknown labels) items ≡ None → TellsPlace labels items count f → TellsFault items f
 place_told items labels count (Duplicate line) e c new short known h = absurd h
 place_told items labels count TooLong e c new short known h = absurd h
 place_told items labels count (Unknown name line) e c new short known h = absurd h

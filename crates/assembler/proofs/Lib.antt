@@ -1,6 +1,7 @@
 pub mod DefinedWords
 pub mod Begins
 pub mod ShownLemmas
+pub mod ShownFunction
 pub mod AssemblyLemmas
 pub mod Statements
 pub mod Repeats
@@ -8,6 +9,6 @@ pub mod Unknowns
 pub mod FirstFaults
 pub mod Outcomes
 pub mod Restored
-pub mod NameTexts
+pub mod Handed
 pub mod Lines
 pub mod TextSizes

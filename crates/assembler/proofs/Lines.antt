@@ -3,7 +3,7 @@ use Rattle.std.proofs.Common.{◌≡◌, ℕ, ◌<◌, ◌≤◌, Bool, true, fa
 use Rattle.std.specs.Option.{option_map}
 use Rattle.std.proofs.lemmas.Option.{slice_get-map, none-some, same_Some}
 use Rattle.goldilocks.specs.declared.Felt.{Felt}
-use Rattle.casm_word.specs.Length.{most_words}
+use Rattle.casm_word.specs.Length.{program_word_limit}
 use Rattle.casm_statements.specs.declared.Body.{Body}
 use Rattle.casm_statements.specs.declared.Item.{Item}
 use Rattle.casm_text.specs.Meaning.{bodies}
@@ -77,7 +77,7 @@ fault_free xs ys e none (Duplicate line) h =
       line_is = refl;
       first = λ k i low r. let q = repeats_too ys xs (sym e) k i r in h.first k q.0 low q.1;
     })
-fault_free xs ys e none TooLong h = none TooLong (subst (λ (bs : List Body). most_words < word_count bs) (sym e) h)
+fault_free xs ys e none TooLong h = none TooLong (subst (λ (bs : List Body). program_word_limit < word_count bs) (sym e) h)
 fault_free xs ys e none (Unknown name line) h =
     let labels = labels_of (bodies ys) in
     let same : labels_of (bodies xs) ≡ labels = ap labels_of e in

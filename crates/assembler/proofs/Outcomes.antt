@@ -5,7 +5,7 @@ use Rattle.std.specs.Option.{option_or, option_map, option_and_then}
 use Rattle.std.proofs.lemmas.Bool.{cases_lt, false≢true, ltb-true, ltb-false, leb-true, leb-false}
 use Rattle.std.proofs.lemmas.Option.{none-some, same_Some}
 use Rattle.goldilocks.specs.declared.Felt.{Felt}
-use Rattle.casm_word.specs.Length.{most_words}
+use Rattle.casm_word.specs.Length.{program_word_limit}
 use Rattle.casm_statements.specs.declared.Body.{Body}
 use Rattle.casm_statements.specs.declared.Item.{Item}
 use Rattle.casm_text.specs.Meaning.{bodies}
@@ -165,15 +165,15 @@ repeat_none : (r : Option ℕ) → option_map (λ line. Duplicate line) r ≡ No
 repeat_none None h = refl
 repeat_none (Some line) h = absurd (none-some (Duplicate line) (sym h))
 
-long_told : (items : List Item) → ((k : ℕ) (i : Item) → RepeatsAt items k i → ⊥) → (f : AsmFault) → then_some (nat_lt most_words (word_count (bodies items))) TooLong ≡ Some f → IsFirstFault items f
+long_told : (items : List Item) → ((k : ℕ) (i : Item) → RepeatsAt items k i → ⊥) → (f : AsmFault) → then_some (nat_lt program_word_limit (word_count (bodies items))) TooLong ≡ Some f → IsFirstFault items f
 long_told items new f h =
-    let t = then_told (nat_lt most_words (word_count (bodies items))) TooLong f h in
-    subst (λ (g : AsmFault). IsFirstFault items g) t.1 (length_told items new (ltb-true most_words (word_count (bodies items)) t.0))
+    let t = then_told (nat_lt program_word_limit (word_count (bodies items))) TooLong f h in
+    subst (λ (g : AsmFault). IsFirstFault items g) t.1 (length_told items new (ltb-true program_word_limit (word_count (bodies items)) t.0))
 
 -- what is known of items where the faults before one are not there
 record IsShort (items : List Item) : Type 0 where
   new : (k : ℕ) (i : Item) → RepeatsAt items k i → ⊥
-  short : word_count (bodies items) ≤ most_words
+  short : word_count (bodies items) ≤ program_word_limit
 
 record IsKnown (items : List Item) : Type 0 where
   so_far : IsShort items
@@ -237,7 +237,7 @@ answer items =
     or_answer items _ _ (repeat_told items (first_repeat [] items) (repeat_found items)) (λ e.
     let new = no_repeats items (repeat_none (first_repeat [] items) e) in
     or_answer items _ _ (long_told items new) (λ e.
-    let short : IsShort items = record { new = new; short = ltb-false most_words (word_count (bodies items)) (then_none (nat_lt most_words (word_count (bodies items))) TooLong e) } in
+    let short : IsShort items = record { new = new; short = ltb-false program_word_limit (word_count (bodies items)) (then_none (nat_lt program_word_limit (word_count (bodies items))) TooLong e) } in
     or_answer items _ _ (unknown_told items short) (λ e.
     let known : IsKnown items = record { so_far = short; known = all_known (labels_of (bodies items)) items e } in
     or_answer items _ _ (no_end_told items known) (λ e.

@@ -6,7 +6,7 @@ use Rattle.std.specs.Option.{option_or, option_map}
 use Rattle.std.proofs.lemmas.Bool.{false≢true}
 use Rattle.std.proofs.lemmas.Option.{slice_get-map, none-some}
 use Rattle.goldilocks.specs.declared.Felt.{Felt}
-use Rattle.casm_word.specs.Length.{most_words}
+use Rattle.casm_word.specs.Length.{program_word_limit}
 use Rattle.casm_statements.specs.declared.Target.TheVariants.{Number}
 use Rattle.casm_statements.specs.declared.Body.{Body}
 use Rattle.casm_statements.specs.declared.Body.TheVariants as body
@@ -185,7 +185,7 @@ none_repeats items bs e new k i r =
     let again : is_given_again (take k bs) i.body ≡ true = subst (λ (cs : List Body). is_given_again (take k cs) i.body ≡ true) e r.again in
     false≢true (sym (new k i.body there) ∙ again)
 
-pub restored : (words : List Felt) (s e : ℕ) (o r : Bool) (items : List Item) → length words ≤ most_words → s < length words → e < length words → Disassembles words s e o r items → AssemblesTo words s e o r items
+pub restored : (words : List Felt) (s e : ℕ) (o r : Bool) (items : List Item) → length words ≤ program_word_limit → s < length words → e < length words → Disassembles words s e o r items → AssemblesTo words s e o r items
 unfolding whole
 restored words s e o r items most start_low end_low d =
     let bs = d.statements in

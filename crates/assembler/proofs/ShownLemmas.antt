@@ -83,23 +83,6 @@ one_within (suc n) (v ∷ vs) cs bs m a b = elim (begins_or_not (v ∷ vs)) [
 pub shown_as_one : (words : List Felt) (cs bs : List Body) → Shown words cs → Shown words bs → cs ≡ bs
 shown_as_one words cs bs a b = one_within (length words) words cs bs (omega arith) a b
 
--- each list of words is shown as one
-some_within : (n : ℕ) (words : List Felt) → length words ≤ n → (bs : List Body) × Shown words bs
-some_within n [] m = ([], refl)
-some_within zero (v ∷ vs) m = absurd (omega arith)
-some_within (suc n) (v ∷ vs) m = elim (begins_or_not (v ∷ vs)) [
-  | inl (s, ys, e) ↦
-      let short = left_shorter (v ∷ vs) s ys e in
-      let p = some_within n ys (omega arith) in
-      (body.Stmt s ∷ p.0, (ys, e, p.1))
-  | inr none ↦
-      let p = some_within n vs (omega arith) in
-      (body.Dw v ∷ p.0, (vs, refl, none, p.1))
-]
-
-pub shown_as_some : (words : List Felt) → (bs : List Body) × Shown words bs
-shown_as_some words = some_within (length words) words (omega arith)
-
 -- the words of statements are shown as these statements
 pub shown_as_statements : (stmts : List Stmt) → AllByRecursion HasOffsets stmts → Shown (flat_map statement_words stmts) (map body.Stmt stmts)
 shown_as_statements [] h = refl

@@ -10,7 +10,7 @@ use Rattle.std.proofs.lemmas.List.{length-append}
 use Rattle.goldilocks.specs.Field.{prime}
 use Rattle.goldilocks.specs.declared.Felt.{Felt}
 use Rattle.casm_word.specs.declared.Word.{Word}
-use Rattle.casm_word.specs.Length.{most_words}
+use Rattle.casm_word.specs.Length.{program_word_limit}
 use Rattle.casm_statements.specs.declared.Reg.{Reg}
 use Rattle.casm_statements.specs.declared.Reg.TheVariants as reg_is
 use Rattle.casm_statements.specs.declared.Cell.{Cell}
@@ -25,7 +25,7 @@ use Rattle.casm_statements.specs.declared.Body.{Body}
 use Rattle.casm_statements.specs.declared.Body.TheVariants as body
 use Rattle.casm_statements.specs.declared.Item.{Item}
 use Rattle.casm_statements.specs.Words.{no_flags, unused, with_dst, with_op0, with_op1, with_immediate, with_term, with_operand, encoding}
-use Rattle.casm_tokens.specs.Limits.{most_bytes}
+use Rattle.casm_tokens.specs.Limits.{text_limit}
 use Rattle.casm_text.specs.Canonical.{reg_text, offset_text, cell_text, half, number_text, term_text, operand_text, inc_text, way_text, stmt_text, body_text, printed}
 use Rattle.assembler.specs.StatementWords.{HasOffsets}
 use Rattle.assembler.specs.Shown.{Shown}
@@ -216,10 +216,10 @@ places_le words n s e bs p q h =
     omega arith
 
 -- the text of a program that is disassembled can be read again
-pub text_fits : (words : List Felt) (s e : ℕ) (o r : Bool) (items : List Item) → length words ≤ most_words → s < 2 ^ 32 → e < 2 ^ 32 → Disassembles words s e o r items → length (printed items) ≤ most_bytes
-text_fits words s e o r items most p q d = subst (λ (is : List Item). length (printed is) ≤ most_bytes) (sym d.lines_are) (by (o || r))
+pub text_fits : (words : List Felt) (s e : ℕ) (o r : Bool) (items : List Item) → length words ≤ program_word_limit → s < 2 ^ 32 → e < 2 ^ 32 → Disassembles words s e o r items → length (printed items) ≤ text_limit
+text_fits words s e o r items most p q d = subst (λ (is : List Item). length (printed is) ≤ text_limit) (sym d.lines_are) (by (o || r))
   where
-    by : (b : Bool) → length (printed (on_lines 1 ((if b then body.Builtins o r ∷ [] else []) ++ body.Start (Number s) ∷ body.End (Number e) ∷ [] ++ d.statements))) ≤ most_bytes
+    by : (b : Bool) → length (printed (on_lines 1 ((if b then body.Builtins o r ∷ [] else []) ++ body.Start (Number s) ∷ body.End (Number e) ∷ [] ++ d.statements))) ≤ text_limit
     by true =
         let k = line_le 1 (body.Builtins o r) (body.Start (Number s) ∷ body.End (Number e) ∷ d.statements) 28 (62 * length words + 34) (builtins_le o r) (places_le words (1 + 1) s e d.statements p q d.shown) in
         omega arith

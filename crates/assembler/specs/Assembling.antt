@@ -4,7 +4,7 @@ use Rattle.std.specs.Prelude.{ℕ, Bool, List, [], ◌∷◌, ◌++◌, find, Op
 use Rattle.std.specs.Bool.{then_some}
 use Rattle.std.specs.Option.{option_or}
 use Rattle.goldilocks.specs.declared.Felt.{Felt}
-use Rattle.casm_word.specs.Length.{most_words}
+use Rattle.casm_word.specs.Length.{program_word_limit}
 use Rattle.casm_statements.specs.declared.Body.{Body}
 use Rattle.casm_statements.specs.declared.Item.{Item}
 use Rattle.casm_text.specs.Meaning.{bodies}
@@ -60,11 +60,11 @@ unknown_fault labels i = option_map (λ n. Unknown n i.line) (unknown_in labels 
 abbrev pub first_unknown : List (List ℕ × ℕ) → List Item → Option AsmFault
 first_unknown labels items = option_and_then (unknown_fault labels) (find (λ i. is_some (unknown_in labels i.body)) items)
 
--- The first fault of items, in the order in which faults are told. Own.
+-- The first fault of items, in the order in which faults are reported. Own.
 unfoldable pub first_fault : List Item → Option AsmFault
 first_fault items =
     option_or (option_map (λ line. Duplicate line) (first_repeat [] items))
-    (option_or (then_some (nat_lt most_words (word_count (bodies items))) TooLong)
+    (option_or (then_some (nat_lt program_word_limit (word_count (bodies items))) TooLong)
     (option_or (first_unknown (labels_of (bodies items)) items)
     (option_or (then_some (is_none (first_given end_in (bodies items))) NoEnd)
     (option_or (then_some (nat_le (word_count (bodies items)) (start_place (bodies items))) StartOutside)

@@ -1,6 +1,6 @@
--- Why items can't be assembled: each fault by itself, and the order in which they are told.
+-- Why items can't be assembled: each fault by itself, and the order in which they are reported.
 use Rattle.std.specs.Prelude.{◌≡◌, ℕ, ◌<◌, ◌≤◌, Bool, false, List, take, find, slice_get, Option, Some, None, is_some, IsTrue, if◌then◌else◌}
-use Rattle.casm_word.specs.Length.{most_words}
+use Rattle.casm_word.specs.Length.{program_word_limit}
 use Rattle.casm_statements.specs.declared.Body.{Body}
 use Rattle.casm_statements.specs.declared.Body.TheVariants as body
 use Rattle.casm_statements.specs.declared.Item.{Item}
@@ -54,14 +54,14 @@ pub record IsFirstUnknown (items : List Item) (missing : List ℕ) (number : ℕ
 -- isn't there. There is no end. The start isn't below the number of words, or the end isn't. Own.
 abbrev pub HasAsmFault : List Item → AsmFault → Type 0
 HasAsmFault items (Duplicate line) = IsFirstRepeat items line
-HasAsmFault items TooLong = most_words < word_count (bodies items)
+HasAsmFault items TooLong = program_word_limit < word_count (bodies items)
 HasAsmFault items (Unknown name line) = IsFirstUnknown items name line
 HasAsmFault items NoEnd = first_given end_in (bodies items) ≡ None
 HasAsmFault items StartOutside = word_count (bodies items) ≤ start_place (bodies items)
 HasAsmFault items EndOutside = word_count (bodies items) ≤ end_place (bodies items)
 HasAsmFault items Memory = ⊥
 
--- The order in which faults are told. Own.
+-- The order in which faults are reported. Own.
 abbrev pub rank : AsmFault → ℕ
 rank (Duplicate line) = 0
 rank TooLong = 1
@@ -75,7 +75,7 @@ rank Memory = 6
 abbrev pub HasNoFault : List Item → Type 0
 HasNoFault items = (f : AsmFault) → HasAsmFault items f → ⊥
 
--- The fault is there, and none that is told before it is. Own.
+-- The fault is there, and none that is reported before it is. Own.
 pub record IsFirstFault (items : List Item) (f : AsmFault) : Type 0 where
   pub holds : HasAsmFault items f
   pub first : (g : AsmFault) → rank g < rank f → HasAsmFault items g → ⊥

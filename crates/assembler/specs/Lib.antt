@@ -1,5 +1,6 @@
 pub mod StatementWords
 pub mod Shown
+pub mod ShownBodies
 pub mod Assembly
 pub mod Faults
 pub mod Assembling

@@ -6,7 +6,7 @@ use Rattle.casm_statements.specs.declared.Body.TheVariants as body
 use Rattle.assembler.specs.StatementWords.{BeginsWith, BeginsWithNone}
 
 -- The words are shown as these bodies. No words are shown as none. Where the words begin with those of a statement, they
--- are shown as it, and then come the words behind it. Where they begin with those of none, the first one is shown as a
+-- are shown as it, and then come the words after it. Where they begin with those of none, the first one is shown as a
 -- number, and then come the others. Own.
 abbrev pub Shown : List Felt → List Body → Type 0
 Shown words [] = words ≡ []

@@ -9,7 +9,7 @@ use Rattle.casm_word.specs.Word.{word_number}
 use Rattle.casm_statements.specs.declared.Stmt.{Stmt}
 use Rattle.casm_statements.specs.Words.{encoding}
 
--- The words of a statement: the number of its instruction word, and behind it the immediate, where it has one. The
+-- The words of a statement: the number of its instruction word, and after it the immediate, where it has one. The
 -- whitepaper's instruction structure.
 unfoldable pub statement_words : Stmt → List Felt
 statement_words s = felt (word_number (encoding s).0) ∷ option_to_list (encoding s).1
@@ -21,7 +21,7 @@ pub record HasOffsets (s : Stmt) : Type 0 where
   pub op0 : FitsSigned w16 (encoding s).0.off_op0
   pub op1 : FitsSigned w16 (encoding s).0.off_op1
 
--- The words begin with those of the statement, and the others are left behind them. Own.
+-- The words begin with those of the statement, and the others come after them. Own.
 pub record BeginsWith (words : List Felt) (s : Stmt) (others : List Felt) : Type 0 where
   pub offsets : HasOffsets s
   pub parts : words ≡ statement_words s ++ others

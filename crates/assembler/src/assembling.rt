@@ -2,7 +2,7 @@
 #![tactic(auto)]
 
 ghost use Rattle.std.specs.Prelude.{◌≡◌, ◌≤◌, ◌<◌, ℕ, List, map, length, None, IfOk, IfErr, OnOk, option_copied};
-ghost use Rattle.casm_word.specs.Length.{most_words};
+ghost use Rattle.casm_word.specs.Length.{program_word_limit};
 ghost use Rattle.casm_statements.specs.declared.Item.{Item};
 ghost use Rattle.casm_statements.specs.declared.Stmt.{Stmt};
 ghost use Rattle.casm_text.specs.Meaning.{bodies};
@@ -15,14 +15,14 @@ use crate::survey::Survey;
 use crate::words::words_of;
 use crate::{AsmFault, Assembled};
 use casm_text::{Body, Item, Name, Target};
-use casm_word::MOST_WORDS;
+use casm_word::PROGRAM_WORD_LIMIT;
 use indexmap::IndexMap;
 use std::alloc::Global;
 
 /// The program of items: the words of each one after another.
 ///
 /// A statement that names a label is the relative one with the distance to it. A program without `%start` starts at word
-/// 0, and one without `%builtins` uses none. Where several faults are there, the first is told in the order of
+/// 0, and one without `%builtins` uses none. Where several faults are there, the first is reported in the order of
 /// [`AsmFault`].
 pub fn assemble(alloc: Global, items: &[Item]) -> Result<Assembled, AsmFault>
     ensures accepted { OnOk result (HasNoFault items.now) }
@@ -33,7 +33,7 @@ pub fn assemble(alloc: Global, items: &[Item]) -> Result<Assembled, AsmFault>
     ensures builtins { IfOk result (λ a. (a.output, a.range) ≡ builtins_of (bodies items.now)) }
 
     // It has 1 to 2^18 words, and its places are inside.
-    ensures size { IfOk result (λ a. length a.words.items ≤ most_words) }
+    ensures size { IfOk result (λ a. length a.words.items ≤ program_word_limit) }
     ensures inside { IfOk result (λ a. (a.start < length a.words.items) × (a.end < length a.words.items)) }
 
     // Where all words are those of statements that name no label, they are shown as these statements.
@@ -43,18 +43,9 @@ pub fn assemble(alloc: Global, items: &[Item]) -> Result<Assembled, AsmFault>
     // A refusal tells the first fault that is there, unless there was no memory.
     ensures fault { IfErr result (TellsFault items.now) }
 {
-    let (labels, count) = match labels_and_count(alloc, items) {
-        Ok(found) => found,
-        Err(fault) => return Err(fault),
-    };
-    let words = match words_of(alloc, items, &labels, count) {
-        Ok(words) => words,
-        Err(fault) => return Err(fault),
-    };
-    let (start, end) = match places(items, &labels, count) {
-        Ok(found) => found,
-        Err(fault) => return Err(fault),
-    };
+    let (labels, count) = labels_and_count(alloc, items)?;
+    let words = words_of(alloc, items, &labels, count)?;
+    let (start, end) = places(items, &labels, count)?;
     let (output, range) = builtins_of(items);
     Ok(Assembled {
         words,
@@ -71,19 +62,15 @@ fn labels_and_count(alloc: Global, items: &[Item]) -> Result<(IndexMap<Name, u32
     ensures new { OnOk result ((k : ℕ) (i : Item) → RepeatsAt items.now k i → ⊥) }
     ensures labels { IfOk result (λ found. found.0.entries ≡ labels_of (bodies items.now)) }
     ensures count { IfOk result (λ found. found.1 ≡ word_count (bodies items.now)) }
-    ensures short { OnOk result (word_count (bodies items.now) ≤ most_words) }
+    ensures short { OnOk result (word_count (bodies items.now) ≤ program_word_limit) }
     ensures fault { IfErr result (TellsFault items.now) }
 {
-    match Survey::of(alloc, items) {
-        Ok(survey) => {
-            let count = survey.words;
-            if count as usize > MOST_WORDS {
-                return Err(AsmFault::TooLong);
-            }
-            Ok((survey.labels, count))
-        }
-        Err(fault) => Err(fault),
+    let survey = Survey::of(alloc, items)?;
+    let count = survey.words;
+    if count as usize > PROGRAM_WORD_LIMIT {
+        return Err(AsmFault::TooLong);
     }
+    Ok((survey.labels, count))
 }
 
 /// The places where the program starts and ends, which are below its number of words.
@@ -94,9 +81,7 @@ fn places(items: &[Item], labels: &IndexMap<Name, u32>, count: u32) -> Result<(u
     ensures inside { IfOk result (λ p. (p.0 < count) × (p.1 < count)) }
     ensures fault { IfErr result (TellsPlace labels.now.entries items.now count) }
 {
-    let Some(target) = end_target(items) else {
-        return Err(AsmFault::NoEnd);
-    };
+    let target = end_target(items).ok_or(AsmFault::NoEnd)?;
     let start = target_place(start_target(items), labels);
     if start >= count {
         return Err(AsmFault::StartOutside);

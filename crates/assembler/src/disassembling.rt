@@ -2,8 +2,8 @@
 #![tactic(auto)]
 
 ghost use Rattle.std.specs.Prelude.{◌≡◌, ◌≤◌, ◌<◌, ◌+◌, ◌^◌, ◌++◌, [], ◌∷◌, length, IfOk, OnOk};
-ghost use Rattle.casm_word.specs.Length.{most_words};
-ghost use Rattle.casm_tokens.specs.Limits.{most_bytes};
+ghost use Rattle.casm_word.specs.Length.{program_word_limit};
+ghost use Rattle.casm_tokens.specs.Limits.{text_limit};
 ghost use Rattle.casm_text.specs.Canonical.{printed};
 ghost use Rattle.assembler.specs.Disassembly.{builtins_directive, on_lines, Disassembles, AssemblesTo};
 ghost use Rattle.assembler.specs.Views.{ShownBehind};
@@ -25,7 +25,7 @@ pub fn disassemble(
     output: bool,
     range: bool,
 ) -> Result<Vec<Item>, AllocError>
-    requires { length words.now ≤ most_words }
+    requires { length words.now ≤ program_word_limit }
     ensures shown { IfOk result (λ items. Disassembles words.now start end output range items.items) }
 
     // The items are assembled to what they were made of.
@@ -33,7 +33,7 @@ pub fn disassemble(
         IfOk result (λ items. AssemblesTo words.now start end output range items.items) }
 
     // Their text isn't too long to be read again.
-    ensures text { IfOk result (λ items. length (printed items.items) ≤ most_bytes) }
+    ensures text { IfOk result (λ items. length (printed items.items) ≤ text_limit) }
 {
     let mut items = Vec::with_capacity(alloc, words.len() + 3)?;
     push_builtins(&mut items, output, range)?;

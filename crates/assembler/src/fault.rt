@@ -1,12 +1,11 @@
 //! Why items can't be assembled.
 
-ghost use Rattle.std.specs.Prelude.{◌≡◌};
-
 use casm_text::Name;
 use std::alloc::AllocError;
-use std::{fmt, str};
+use std::error::Error;
+use std::fmt;
 
-/// Why items can't be assembled. The first in this order is told.
+/// Why items can't be assembled. The first in this order is reported.
 #[derive(Debug, PartialEq, Eq, Drop)]
 pub enum AsmFault {
     /// A label or a directive was given before.
@@ -55,10 +54,7 @@ impl fmt::Display for AsmFault {
         match self {
             AsmFault::Duplicate { line } => write!(f, "Duplicate {line}"),
             AsmFault::TooLong => write!(f, "TooLong"),
-            AsmFault::Unknown { name, line } => {
-                let name = name_text(name);
-                write!(f, "Unknown {name} {line}")
-            }
+            AsmFault::Unknown { name, line } => write!(f, "Unknown {name} {line}"),
             AsmFault::NoEnd => write!(f, "NoEnd"),
             AsmFault::StartOutside => write!(f, "StartOutside"),
             AsmFault::EndOutside => write!(f, "EndOutside"),
@@ -67,12 +63,4 @@ impl fmt::Display for AsmFault {
     }
 }
 
-/// The text of a name.
-fn name_text(name: &Name) -> &str
-    ensures { result.now ≡ name.now }
-{
-    match str::from_utf8(name.text()) {
-        Ok(text) => text,
-        Err(_) => unreachable!(),
-    }
-}
+impl Error for AsmFault {}

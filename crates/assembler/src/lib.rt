@@ -4,7 +4,7 @@
 mod assembling;
 mod disassembling;
 mod fault;
-pub mod laws;
+mod laws;
 mod outcome;
 mod reading;
 mod survey;
@@ -16,6 +16,7 @@ pub use disassembling::disassemble;
 pub use fault::AsmFault;
 use goldilocks::Felt;
 use indexmap::IndexMap;
+pub use laws::{line_laws, place_laws, shown_laws};
 pub use outcome::assembling_laws;
 
 /// A program with the labels of its text.
@@ -34,6 +35,3 @@ pub struct Assembled {
     /// It has range-checked cells.
     pub range: bool,
 }
-
-#[cfg(test)]
-mod tests;

@@ -9,7 +9,7 @@ use casm_text::{Stmt, of_word};
 use casm_word::{Word, decode};
 use goldilocks::Felt;
 
-/// The statement whose words stand first, and the words behind them.
+/// The statement whose words stand first, and the words after them.
 pub(crate) fn first_statement(words: &[Felt]) -> Option<(Stmt, &[Felt])>
     ensures { MatchOption result (BeginsWithNone words.now) (λ p. BeginsWith words.now p.0 p.1.now) }
 {
@@ -28,7 +28,7 @@ pub(crate) fn first_statement(words: &[Felt]) -> Option<(Stmt, &[Felt])>
     }
 }
 
-/// The immediate of an instruction word, if it has one, and the words behind it; `None` where it is missing.
+/// The immediate of an instruction word, if it has one, and the words after it; `None` where it is missing.
 fn split_immediate<'a>(word: &Word, rest: &'a [Felt]) -> Option<(Option<Felt>, &'a [Felt])>
     ensures { MatchOption result
         ((word.now.flags.op1_imm ≡ true) × (rest.now ≡ []))

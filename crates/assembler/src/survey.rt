@@ -44,10 +44,7 @@ impl Survey {
             end: false,
         };
         for item in items {
-            match survey.add(alloc, item) {
-                Ok(()) => {}
-                Err(fault) => return Err(fault),
-            }
+            survey.add(alloc, item)?;
         }
         Ok(survey)
     }

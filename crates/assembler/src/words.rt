@@ -3,7 +3,7 @@
 
 ghost use Rattle.std.specs.Prelude.{◌≡◌, ◌≤◌, ◌<◌, ◌++◌, ◌^◌, None, IfOk, IfErr, OnOk, find, is_some, length, option_copied};
 ghost use Rattle.std.specs.List.{AllByRecursion};
-ghost use Rattle.casm_word.specs.Length.{most_words};
+ghost use Rattle.casm_word.specs.Length.{program_word_limit};
 ghost use Rattle.casm_text.specs.Meaning.{bodies};
 ghost use Rattle.assembler.specs.StatementWords.{statement_words, HasOffsets};
 ghost use Rattle.assembler.specs.Assembly.{body_size, body_words, label_named, target_name, distance, distance_to, word_count, words_from};
@@ -24,7 +24,7 @@ pub(crate) fn words_of(
     labels: &IndexMap<Name, u32>,
     count: u32,
 ) -> Result<Vec<Felt>, AsmFault>
-    requires { word_count (bodies items.now) ≤ most_words }
+    requires { word_count (bodies items.now) ≤ program_word_limit }
     ensures words { IfOk result (λ words. words.items ≡ words_from labels.now.entries 0 (bodies items.now)) }
     ensures offsets { OnOk result (AllByRecursion KeepsOffsets (bodies items.now)) }
     ensures known { OnOk result (find (λ i. is_some (unknown_in labels.now.entries i.body)) items.now ≡ None) }
@@ -44,7 +44,7 @@ fn push_item(
     labels: &IndexMap<Name, u32>,
     item: &Item,
 ) -> Result<(), AsmFault>
-    requires { length words.old.items ≤ most_words }
+    requires { length words.old.items ≤ program_word_limit }
     ensures words { OnOk result (words.new.items
         ≡ words.old.items ++ body_words (distance_to labels.now.entries (length words.old.items) (label_named item.now.body)) item.now.body) }
     ensures offsets { OnOk result (KeepsOffsets item.now.body) }
@@ -52,10 +52,7 @@ fn push_item(
     ensures fault { IfErr result (TellsUnknown labels.now.entries item.now) }
 {
     let place = words.len() as u32;
-    let by = match immediate(alloc, labels, item, place) {
-        Ok(by) => by,
-        Err(fault) => return Err(fault),
-    };
+    let by = immediate(alloc, labels, item, place)?;
     push_body(words, &item.body, by)?;
     Ok(())
 }

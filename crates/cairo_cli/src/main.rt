@@ -1,15 +1,12 @@
 //! The program: the words after its name are a command over real files, and its exit status is how that ended.
 #![tactic(auto)]
 
-ghost use Rattle.std.specs.Prelude.{◌≡◌, ◌≢◌, ◌↔◌, [], drop, IsTrue, Some, None, IfSome, IfOk, IfErr, IsErr};
+ghost use Rattle.std.specs.Prelude.{◌≡◌, ◌≢◌, ◌↔◌, [], drop, IsTrue, None, IfOk, IfErr, IsErr};
 ghost use Rattle.std.specs.IoError.{error_kind};
 ghost use Rattle.std.specs.Process.{exit_status};
-ghost use Rattle.std.specs.Io.KnownBytes.{Appends};
-ghost use Rattle.cairo_commands.specs.Status.{status_number, IsDecided};
-ghost use Rattle.cairo_commands.specs.Answer.{usage};
-ghost use Rattle.cairo_commands.specs.Reply.{reply, request_of, inputs_of, outputs_of};
-ghost use Rattle.cairo_commands.specs.Means.{Means};
-ghost use Rattle.cairo_commands.specs.Perform.{Replied, CountsNoFault, Evidence, Leaves};
+ghost use Rattle.cairo_commands.specs.Status.{status_number};
+ghost use Rattle.cairo_commands.specs.Reply.{request_of};
+ghost use Rattle.cairo_commands.specs.Perform.{Performs};
 
 use cairo_commands::{Status, perform};
 use file_port::{DiskStore, OutSink, Sink, Store};
@@ -34,22 +31,9 @@ fn answer<S: Store, K: Sink>(
     store: &mut S,
     sink: &mut K,
 ) -> Status
-    ensures replies { IfOk words (λ words. IfSome (S.seen store.old).files (λ files. IsDecided result →
-        Replied (reply (drop 1 words.items) files) files result (S.seen store.new) (K.seen sink.old) (K.seen sink.new))) }
-    ensures complete { CountsNoFault (S.seen store.old) (S.seen store.new) (K.seen sink.old) (K.seen sink.new) →
-        (result ≡ Status.Memory → ⊥) → IsDecided result }
-    ensures means { IfOk words (λ words. IfSome (S.seen store.old).files (λ files. IsDecided result →
-        IfSome (request_of (drop 1 words.items)) (λ request.
-        Means request files result (S.seen store.new).files (K.seen sink.old).written (K.seen sink.new).written))) }
-    ensures words { IfOk words (λ words. IsDecided result → ((result ≡ Status.Words) ↔ (request_of (drop 1 words.items) ≡ None))) }
-    ensures usage_line { IfOk words (λ words. request_of (drop 1 words.items) ≡ None → IsDecided result →
-        Appends (K.seen sink.old).written (K.seen sink.new).written usage.line) }
-    ensures untouched { IfOk words (λ words. request_of (drop 1 words.items) ≡ None → store.new ≡ store.old) }
-    ensures evidence { IfOk words (λ words. Evidence (inputs_of (request_of (drop 1 words.items))) (outputs_of (request_of (drop 1 words.items)))
+    ensures performs { IfOk words (λ words. Performs (drop 1 words.items)
         (S.seen store.old) (S.seen store.new) (K.seen sink.old) (K.seen sink.new) result) }
-    ensures leaves { IfOk words (λ words. IfSome (S.seen store.old).files (λ files. Leaves (reply (drop 1 words.items) files) files
-        (inputs_of (request_of (drop 1 words.items))) (outputs_of (request_of (drop 1 words.items)))
-        (S.seen store.old) (S.seen store.new) (K.seen sink.old) (K.seen sink.new) result)) }
+    ensures untouched { IfOk words (λ words. request_of (drop 1 words.items) ≡ None → store.new ≡ store.old) }
     ensures no_words { IfErr words (λ _. (result ≡ Status.Memory) × (store.new ≡ store.old) × (sink.new ≡ sink.old)) }
 {
     match words {

@@ -15,8 +15,8 @@ use Rattle.assembler.proofs.TextSizes.{text_fits}
 use Rattle.program_file.specs.Listing.{Listing, IsProgram}
 use Rattle.program_file.specs.Format.{written as program_bytes}
 use Rattle.program_file.proofs.WrittenPrograms.{SpellsProgram-written}
-use Rattle.cairo_commands.specs.declared.status.Status.TheVariants.{Done}
-use Rattle.cairo_commands.specs.Answer.{Answer, written}
+use Rattle.command_frame.specs.declared.status.Status.TheVariants.{Done}
+use Rattle.command_frame.specs.Answer.{Answer, written}
 use Rattle.cairo_commands.specs.Programs.{HoldsProgram, listing_of, items_of}
 use Rattle.cairo_commands.specs.Commands.Asm.{asm_answer, asm_line, Assembles}
 use Rattle.cairo_commands.specs.Commands.Dis.{dis_answer, text_answer}
@@ -24,7 +24,7 @@ use Rattle.cairo_commands.proofs.ProgramReadings.{Disassembles-items_of, IsProgr
 use Rattle.cairo_commands.proofs.AsmTheorem.{asm_answer-assembled}
 use Rattle.cairo_commands.proofs.DisTheorem.{dis_answer-shown}
 use Rattle.cairo_commands.proofs.ProgramSizes.{written_fits}
-use Rattle.cairo_commands.proofs.WrittenFiles.{held_last}
+use Rattle.command_frame.proofs.WrittenFiles.{held_last}
 use Rattle.cairo_commands.proofs.ShownBodies.{disassembled_bodies}
 
 -- ---- what `asm` makes of what `dis` wrote
@@ -77,10 +77,10 @@ module _ (text : Name) (files : Files) (p : Listing) (program : IsProgram p) whe
       asm_answer-assembled text copy shown_files Assembles-shown
       ∙ ap (assembled_answer copy) (listing_again read_back.items p assembled_again)
 
-pub asm-of_dis : (program text copy : Name) (files : Files) (dis : HoldsProgram program files) → asm_answer text copy (written (dis_answer program text files).writes files) ≡ assembled_answer copy dis.listed
+pub asm-of_dis : (program text copy : Name) (files : Files) (dis : HoldsProgram program files) → asm_answer text copy (written (dis_answer program text files).writes files) ≡ assembled_answer copy dis.value
 asm-of_dis program text copy files dis =
     ap (λ (a : Answer). asm_answer text copy (written a.writes files)) (dis_answer-shown program text files dis)
-    ∙ assembled_shown text files dis.listed dis.spelled.program copy
+    ∙ assembled_shown text files dis.value dis.spelled.program copy
 
 -- ---- what `dis` makes of what `asm` wrote
 
@@ -89,7 +89,7 @@ HoldsProgram-written program files p is = record {
   bytes = program_bytes p;
   held = held_last files program (program_bytes p);
   short = written_fits p is;
-  listed = p;
+  value = p;
   spelled = SpellsProgram-written p is;
 }
 

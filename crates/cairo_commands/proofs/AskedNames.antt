@@ -1,93 +1,102 @@
--- What words ask for keeps the rules of names: none is empty, and no output has the name of an input or of another output.
-use Rattle.std.proofs.Common.{◌≡◌, Bool, true, false, cond, List, [], ◌∷◌, map, Option, Some, None, IfSome, refl, subst}
-use Rattle.std.specs.Prelude.{codes}
-use Rattle.std.specs.Str.{bytes_eq}
+-- What words ask for reads and writes the words that the form has as inputs and outputs. So its names keep the rules: none
+-- is empty, and no output has the name of an input or of another output.
+use Rattle.std.proofs.Common.{◌≡◌, ℕ, zero, suc, ◌-◌, ◌<◌, true, List, [], ◌∷◌, length, map, Option, Some, None, IfSome, option_map, refl, sym, subst, arith}
+use Rattle.std.specs.Prelude.{slice_index_or}
+use Rattle.std.specs.List.{Contains}
 use Rattle.file_port.specs.Files.{Name}
-use Rattle.call_words.specs.Names.{are_names}
-use Rattle.cairo_commands.specs.Answer.{Input}
-use Rattle.cairo_commands.specs.Request.{Request, Walk, Asm, Dis, Tables, Check}
-use Rattle.cairo_commands.specs.Reply.{request_in, task}
-use Rattle.cairo_commands.specs.Commands.Walk.{walk_request}
-use Rattle.cairo_commands.specs.Commands.Asm.{asm_request}
-use Rattle.cairo_commands.specs.Commands.Dis.{dis_request}
-use Rattle.cairo_commands.specs.Commands.Tables.{tables_request}
-use Rattle.cairo_commands.specs.Commands.Check.{check_request}
+use Rattle.command_words.specs.Names.{are_names}
+use Rattle.command_words.specs.Forms.{CommandForm, forms}
+use Rattle.command_words.specs.Calls.{Call, inputs_among, outputs_among, KeepsForm, asked}
+use Rattle.command_words.proofs.CallLaws.{AskFor-told}
+use Rattle.command_frame.specs.Answer.{Input, Task}
+use Rattle.cairo_commands.specs.Request.{Request, request_with, request_for}
+use Rattle.cairo_commands.specs.Reply.{request_in, task, inputs_from, KeepsPlaces}
 
 -- the names of its inputs and outputs keep the rules of all commands
 unfoldable pub KeepsNames : Request → Type 0
 KeepsNames request = are_names (map (λ (input : Input). input.name) (task request).inputs) (task request).outputs ≡ true
 
--- what is asked for where a test passes, and else not
-where_passed : (b : Bool) (r request : Request) → cond b (Some r) None ≡ Some request → (b ≡ true → KeepsNames r) → KeepsNames request
-where_passed true r request asked keeps =
-    let same : r ≡ request = cc in
-    subst KeepsNames same (keeps refl)
-where_passed false r request asked keeps = cc
+-- a task reads the inputs of a form among these arguments, by position and by name, and writes the outputs
+record Reads (form : CommandForm) (arguments : List Name) (asked : Task) : Type 0 where
+  placed : map (λ (input : Input). (input.position, input.name)) asked.inputs ≡ inputs_from 1 form.parts arguments
+  named : map (λ (input : Input). input.name) asked.inputs ≡ inputs_among form.parts arguments
+  written : asked.outputs ≡ outputs_among form.parts arguments
 
--- what is asked for by one of two
-by_one : (b : Bool) (one other : Option Request) (request : Request) → cond b one other ≡ Some request → (one ≡ Some request → KeepsNames request) → (other ≡ Some request → KeepsNames request) → KeepsNames request
-by_one true one other request asked first second = first asked
-by_one false one other request asked first second = second asked
+-- what is asked with so many arguments as a form has reads and writes the words of its inputs and outputs
+abbrev Placed : CommandForm → Type 0
+Placed form = (arguments : List Name) → length arguments ≡ length form.parts → Reads form arguments (task (request_with form.command (λ position. slice_index_or arguments (position - 1) [])))
 
-module _ (request : Request) where
-  walk_names : (names : List Name) → walk_request names ≡ Some request → KeepsNames request
-  unfolding KeepsNames task
-  walk_names (trace ∷ memory ∷ []) asked =
-      where_passed (are_names (trace ∷ memory ∷ []) []) (Walk trace memory) request asked (λ passed. passed)
-  walk_names [] asked = cc
-  walk_names (a ∷ []) asked = cc
-  walk_names (a ∷ b ∷ c ∷ more) asked = cc
+-- one after another, as the forms stand in their table
+module _ (other : CommandForm) where
+  placed_walk : Placed (slice_index_or forms 0 other)
+  unfolding task request_with forms
+  placed_walk (trace ∷ memory ∷ []) count = record { placed = refl; named = refl; written = refl }
+  placed_walk [] count = absurd (omega arith)
+  placed_walk (a ∷ []) count = absurd (omega arith)
+  placed_walk (a ∷ b ∷ c ∷ more) count = absurd (omega arith)
 
-  asm_names : (names : List Name) → asm_request names ≡ Some request → KeepsNames request
-  unfolding KeepsNames task
-  asm_names (text ∷ program ∷ []) asked =
-      where_passed (are_names (text ∷ []) (program ∷ [])) (Asm text program) request asked (λ passed. passed)
-  asm_names [] asked = cc
-  asm_names (a ∷ []) asked = cc
-  asm_names (a ∷ b ∷ c ∷ more) asked = cc
+  placed_asm : Placed (slice_index_or forms 1 other)
+  unfolding task request_with forms
+  placed_asm (text ∷ program ∷ []) count = record { placed = refl; named = refl; written = refl }
+  placed_asm [] count = absurd (omega arith)
+  placed_asm (a ∷ []) count = absurd (omega arith)
+  placed_asm (a ∷ b ∷ c ∷ more) count = absurd (omega arith)
 
-  dis_names : (names : List Name) → dis_request names ≡ Some request → KeepsNames request
-  unfolding KeepsNames task
-  dis_names (program ∷ text ∷ []) asked =
-      where_passed (are_names (program ∷ []) (text ∷ [])) (Dis program text) request asked (λ passed. passed)
-  dis_names [] asked = cc
-  dis_names (a ∷ []) asked = cc
-  dis_names (a ∷ b ∷ c ∷ more) asked = cc
+  placed_dis : Placed (slice_index_or forms 2 other)
+  unfolding task request_with forms
+  placed_dis (program ∷ text ∷ []) count = record { placed = refl; named = refl; written = refl }
+  placed_dis [] count = absurd (omega arith)
+  placed_dis (a ∷ []) count = absurd (omega arith)
+  placed_dis (a ∷ b ∷ c ∷ more) count = absurd (omega arith)
 
-  tables_names : (names : List Name) → tables_request names ≡ Some request → KeepsNames request
-  unfolding KeepsNames task
-  tables_names (program ∷ public ∷ trace ∷ memory ∷ tables ∷ []) asked =
-      where_passed (are_names (program ∷ public ∷ trace ∷ memory ∷ []) (tables ∷ [])) (Tables program public trace memory tables) request asked (λ passed. passed)
-  tables_names [] asked = cc
-  tables_names (a ∷ []) asked = cc
-  tables_names (a ∷ b ∷ []) asked = cc
-  tables_names (a ∷ b ∷ c ∷ []) asked = cc
-  tables_names (a ∷ b ∷ c ∷ d ∷ []) asked = cc
-  tables_names (a ∷ b ∷ c ∷ d ∷ e ∷ f ∷ more) asked = cc
+  placed_tables : Placed (slice_index_or forms 3 other)
+  unfolding task request_with forms
+  placed_tables (program ∷ public ∷ trace ∷ memory ∷ tables ∷ []) count = record { placed = refl; named = refl; written = refl }
+  placed_tables [] count = absurd (omega arith)
+  placed_tables (a ∷ []) count = absurd (omega arith)
+  placed_tables (a ∷ b ∷ []) count = absurd (omega arith)
+  placed_tables (a ∷ b ∷ c ∷ []) count = absurd (omega arith)
+  placed_tables (a ∷ b ∷ c ∷ d ∷ []) count = absurd (omega arith)
+  placed_tables (a ∷ b ∷ c ∷ d ∷ e ∷ f ∷ more) count = absurd (omega arith)
 
-  check_names : (names : List Name) → check_request names ≡ Some request → KeepsNames request
-  unfolding KeepsNames task
-  check_names (program ∷ public ∷ tables ∷ []) asked =
-      where_passed (are_names (program ∷ public ∷ tables ∷ []) []) (Check program public tables) request asked (λ passed. passed)
-  check_names [] asked = cc
-  check_names (a ∷ []) asked = cc
-  check_names (a ∷ b ∷ []) asked = cc
-  check_names (a ∷ b ∷ c ∷ d ∷ more) asked = cc
+  placed_check : Placed (slice_index_or forms 4 other)
+  unfolding task request_with forms
+  placed_check (program ∷ public ∷ tables ∷ []) count = record { placed = refl; named = refl; written = refl }
+  placed_check [] count = absurd (omega arith)
+  placed_check (a ∷ []) count = absurd (omega arith)
+  placed_check (a ∷ b ∷ []) count = absurd (omega arith)
+  placed_check (a ∷ b ∷ c ∷ d ∷ more) count = absurd (omega arith)
 
-  asked_names : (words : List Name) → request_in words ≡ Some request → KeepsNames request
-  unfolding request_in
-  asked_names [] asked = cc
-  asked_names (command ∷ names) asked =
-      by_one (bytes_eq command (codes "walk")) _ _ request asked (walk_names names) (λ later.
-      by_one (bytes_eq command (codes "asm")) _ _ request later (asm_names names) (λ later.
-      by_one (bytes_eq command (codes "dis")) _ _ request later (dis_names names) (λ later.
-      by_one (bytes_eq command (codes "tables")) _ _ request later (tables_names names) (λ later.
-      by_one (bytes_eq command (codes "check")) _ _ request later (check_names names) (λ later. cc)))))
+-- of each form in the table
+placed_row : (k : ℕ) (form : CommandForm) → k < length forms → slice_index_or forms k form ≡ form → Placed form
+unfolding forms
+placed_row zero form few is = subst Placed is (placed_walk form)
+placed_row (suc zero) form few is = subst Placed is (placed_asm form)
+placed_row (suc (suc zero)) form few is = subst Placed is (placed_dis form)
+placed_row (suc (suc (suc zero))) form few is = subst Placed is (placed_tables form)
+placed_row (suc (suc (suc (suc zero)))) form few is = subst Placed is (placed_check form)
+placed_row (suc (suc (suc (suc (suc more))))) form few is = absurd (omega arith)
 
--- the same of words that may ask for nothing
-known_names : (words : List Name) (found : Option Request) → request_in words ≡ found → IfSome found KeepsNames
-known_names words None found = tt
-known_names words (Some request) found = asked_names request words found
+-- so of words that keep a form
+pub KeepsPlaces-kept : (form : CommandForm) (words : List Name) (call : Call) → Contains forms form → KeepsForm form words call → KeepsPlaces form call
+KeepsPlaces-kept form words call there kept =
+    let reads = placed_row there.0 form there.1 there.2 kept.arguments kept.count in
+    subst (KeepsPlaces form) (sym kept.asks) (record { inputs = reads.placed; outputs = reads.written })
+
+-- and the names keep the rules
+names_kept : (form : CommandForm) (words : List Name) (call : Call) → Contains forms form → KeepsForm form words call → KeepsNames (request_for call)
+unfolding KeepsNames
+names_kept form words call there kept =
+    let reads = placed_row there.0 form there.1 there.2 kept.arguments kept.count in
+    subst (λ (made : Call). are_names (map (λ (input : Input). input.name) (task (request_for made)).inputs) (task (request_for made)).outputs ≡ true) (sym kept.asks)
+    (rw (reads.named, reads.written) kept.names)
+
+-- of words that are told to ask for something, and of those that aren't
+names_asked : (words : List Name) (found : Option Call) → asked words ≡ found → IfSome (option_map request_for found) KeepsNames
+names_asked words None told = tt
+names_asked words (Some call) told =
+    let asks = AskFor-told words call told in
+    names_kept asks.1 words call (asks.0, asks.2, asks.3) asks.4
 
 pub KeepsNames-asked : (words : List Name) → IfSome (request_in words) KeepsNames
-KeepsNames-asked words = known_names words (request_in words) refl
+KeepsNames-asked words = names_asked words (asked words) refl

@@ -7,21 +7,22 @@ use Rattle.casm_text.specs.TextReading.{text_reading}
 use Rattle.casm_text.proofs.TextReading.{text_reading-meant, Reads-from_text_reading}
 use Rattle.assembler.specs.Assembling.{Assembly, assembling, assembly_of}
 use Rattle.assembler.proofs.Outcomes.{assembling-accepted, HasNoFault-from_assembling}
-use Rattle.cairo_commands.specs.declared.status.Status.{Status}
-use Rattle.cairo_commands.specs.declared.status.Status.TheVariants.{Done}
-use Rattle.cairo_commands.specs.Answer.{Answer, written}
-use Rattle.cairo_commands.specs.Reading.{told}
-use Rattle.cairo_commands.specs.Perform.{Replied}
-use Rattle.cairo_commands.specs.Programs.{syntax_unread, assembly_unread, items_read, assembly_read, text_read}
-use Rattle.cairo_commands.specs.Commands.Asm.{asm_text, program_answer, asm_answer, Assembles, AsmMeans}
-use Rattle.cairo_commands.proofs.Readings.{Done_is_own, IsRead, read_ended, then_read, told_ok, then_ok}
+use Rattle.command_frame.specs.declared.status.Status.{Status}
+use Rattle.command_frame.specs.declared.status.Status.TheVariants.{Done}
+use Rattle.command_frame.specs.Answer.{Answer, written}
+use Rattle.command_frame.specs.Formats.{told}
+use Rattle.command_frame.specs.Evidence.{Replied}
+use Rattle.cairo_commands.specs.Programs.{syntax_unread, assembly_unread, items_read, assembly_read, text_format}
+use Rattle.cairo_commands.specs.Commands.Asm.{program_answer, asm_answer, Assembles, AsmMeans}
+use Rattle.command_frame.proofs.OwnStatus.{Done_is_own}
+use Rattle.command_frame.proofs.Readings.{IsRead, read_ended, then_read, told_ok, then_ok}
 
 module _ (text program : Name) (files : Files) where
   -- the text is read where an ending of its own is answered
-  reads_text : (asm_answer text program files).status ≡ Done → (a : Assembly) × IsRead text_read (asm_text text) files a
+  reads_text : (asm_answer text program files).status ≡ Done → (a : Assembly) × IsRead text_format text files a
   unfolding asm_answer
   reads_text ended =
-      let read = read_ended Done Done_is_own (asm_text text) (λ (a : Assembly). Ok (program_answer program a)) files text_read ended in
+      let read = read_ended Done Done_is_own text_format 1 text (λ (a : Assembly). Ok (program_answer program a)) files ended in
       (read.0, read.1)
 
   Assembles-from_done : (asm_answer text program files).status ≡ Done → Assembles text files
@@ -39,7 +40,7 @@ module _ (text program : Name) (files : Files) where
       }
 
   module _ (asm : Assembles text files) where
-    text_is_read : IsRead text_read (asm_text text) files (assembly_of asm.items)
+    text_is_read : IsRead text_format text files (assembly_of asm.items)
     text_is_read = record {
       bytes = asm.bytes;
       held = asm.held;
@@ -51,7 +52,7 @@ module _ (text program : Name) (files : Files) where
     pub asm_answer-assembled : asm_answer text program files ≡ program_answer program (assembly_of asm.items)
     unfolding asm_answer
     asm_answer-assembled =
-        then_read text_read (asm_text text) files (assembly_of asm.items) text_is_read (λ a. Ok (program_answer program a))
+        then_read text_format 1 text files (assembly_of asm.items) text_is_read (λ a. Ok (program_answer program a))
 
   -- the reply means what is said of `asm`
   pub AsmMeans-from_reply : (status : Status) (after : Seen) (sink_before sink_after : SinkSeen) → Replied (asm_answer text program files) files status after sink_before sink_after → AsmMeans text program files status after.files sink_before.written sink_after.written

@@ -15,7 +15,7 @@ use Rattle.json_fields.specs.Encoding.{list_json, whole_json, felt_json}
 use Rattle.goldilocks.specs.declared.Felt.{Felt}
 use Rattle.program_file.specs.Listing.{Listing, IsProgram}
 use Rattle.program_file.specs.Format.{prime_text, builtin_names, program_json, written}
-use Rattle.cairo_commands.specs.Programs.{text_limit}
+use Rattle.casm_tokens.specs.Limits.{text_limit}
 
 -- two texts one after another
 text_le : (xs ys : List ℕ) (m n : ℕ) → length xs ≤ m → length ys ≤ n → length (xs ++ ys) ≤ m + n

@@ -1,28 +1,23 @@
 -- What the bytes of tables files are read as, and what they spell.
-use Rattle.std.proofs.Common.{◌≡◌, ℕ, zero, suc, ◌<◌, ◌≤◌, ◌/◌, ◌^◌, Bool, true, false, cond, List, [], ◌∷◌, ◌++◌, length, get_or, Result, Ok, Err, refl, sym, ap, ◌∙◌, subst, arith, nat_lt, inl, inr, ◌⊎◌, lit<}
-use Rattle.std.specs.Prelude.{codes, slice_index}
+use Rattle.std.proofs.Common.{◌≡◌, ℕ, zero, suc, ◌<◌, ◌/◌, ◌^◌, Bool, true, false, cond, List, [], ◌∷◌, ◌++◌, get_or, Result, Ok, Err, refl, sym, ap, ◌∙◌, subst, nat_lt, inl, inr, ◌⊎◌, lit<}
+use Rattle.std.specs.Prelude.{codes}
 use Rattle.std.specs.Int.{byte_at, bytes_low_first}
 use Rattle.std.proofs.Math.Nat.{mod-lt}
-use Rattle.std.proofs.lemmas.Bool.{ltb-true, lt-ltb, and_parts, and_from, cases_lt}
+use Rattle.std.proofs.lemmas.Bool.{ltb-true, lt-ltb, and_parts, and_from}
 use Rattle.std.proofs.lemmas.List.Folds.{list_all-append}
-use Rattle.goldilocks.specs.FileNumbers.{number_bytes}
+use Rattle.file_records.specs.Numbers.{numbers_bytes, number_bytes}
 use Rattle.table_file.specs.declared.TableFault.{TableFault}
-use Rattle.table_file.specs.declared.TableFault.TheVariants.{TooMany, Length, Memory}
-use Rattle.table_file.specs.FileNumbers.{numbers_bytes}
+use Rattle.table_file.specs.declared.TableFault.TheVariants.{Memory}
 use Rattle.table_file.specs.Tables.{Contents}
 use Rattle.table_file.specs.Spelling.{SpellsTables, magic, counts, all_values, spelling}
-use Rattle.table_file.specs.Faults.{count_limits, count_place, count_in, file_end, HasFault}
 use Rattle.table_file.specs.Reading.{reading}
-use Rattle.table_file.proofs.FirstFaults.{file_end_least}
-use Rattle.table_file.proofs.Spellings.{no_fault}
 use Rattle.table_file.proofs.Readings.{reading-spells, spells-reading}
-use Rattle.cairo_commands.specs.declared.ending.Refusal.{Refusal}
-use Rattle.cairo_commands.specs.declared.ending.Refusal.TheVariants.{OutOfMemory}
-use Rattle.cairo_commands.specs.Reading.{Faulty, told}
-use Rattle.cairo_commands.specs.TableInputs.{tables_limit, are_bytes, tables_unread, tables_read}
-use Rattle.cairo_commands.specs.Parts.{Refuses, TellsRead}
-use Rattle.cairo_commands.proofs.Readings.{told_ok}
-use Rattle.cairo_commands.proofs.Refusals.{TellsRead-refused}
+use Rattle.command_frame.specs.declared.formats.Unread.{Unread}
+use Rattle.command_frame.specs.declared.formats.Unread.TheVariants.{OutOfMemory}
+use Rattle.command_frame.specs.Formats.{Faulty, told}
+use Rattle.cairo_commands.specs.TableInputs.{are_bytes, tables_unread, tables_read}
+use Rattle.command_frame.specs.Parts.{ReadsAs, IsReason}
+use Rattle.command_frame.proofs.Readings.{told_ok, ReadsAs-reason}
 
 -- ---- numbers that are bytes
 
@@ -78,43 +73,8 @@ SpellsTables-from_read bytes t read = by_test (are_bytes bytes) refl read
     by_test false test e = cc
 
 -- a refusal of the reader is what the bytes are read as
-pub tables_refused : (bytes : List ℕ) (fault : TableFault) (position : ℕ) (refusal : Refusal) → are_bytes bytes ≡ true → (fault ≡ Memory) ⊎ (reading bytes ≡ Err fault) → Refuses position (tables_unread fault) refusal → (fault ≡ Memory → refusal ≡ OutOfMemory) → TellsRead position (tables_read bytes) refusal
-tables_refused bytes fault position refusal test (inl memory) says wants =
-    subst (TellsRead position (tables_read bytes)) (sym (wants memory)) tt
-tables_refused bytes fault position refusal test (inr is) says wants =
-    TellsRead-refused position (tables_unread fault) (tables_read bytes) (tables_read-bytes bytes (Err fault) test is) refusal says
-
--- ---- how long a tables file is
-
-module _ (bytes : List ℕ) (t : Contents) (spells : SpellsTables bytes t) where
-  right_end : length bytes ≡ file_end bytes
-  unfolding HasFault
-  right_end =
-      let none = no_fault bytes t spells in
-      elim (cases_lt (length bytes) (file_end bytes)) [
-        | inl early ↦ absurd (none (length bytes) Length (inl (record { ends = refl; early = early })))
-        | inr late ↦ elim (cases_lt (file_end bytes) (length bytes)) [
-          | inl followed ↦ absurd (none (file_end bytes) Length (inr (record { ends = refl; followed = followed })))
-          | inr same ↦ omega arith
-        ]
-      ]
-
-  low_count : (k : ℕ) → k < 5 → count_in bytes k ≤ slice_index count_limits k
-  unfolding HasFault
-  low_count k few =
-      elim (cases_lt (slice_index count_limits k) (count_in bytes k)) [
-        | inl above ↦ absurd (no_fault bytes t spells (count_place k) TooMany (record { k = k; is_count = few; begins = refl; whole = omega (arith, right_end, file_end_least bytes); above = above }))
-        | inr low ↦ low
-      ]
-
-  -- bytes that spell tables are within the limit of a tables file
-  pub length-spelled_tables : length bytes ≤ tables_limit
-  unfolding file_end
-  length-spelled_tables =
-      let end = right_end in
-      let rows = low_count 0 (omega arith) in
-      let range = low_count 1 (omega arith) in
-      let fillers = low_count 2 (omega arith) in
-      let pairs = low_count 3 (omega arith) in
-      let range_fillers = low_count 4 (omega arith) in
-      omega arith
+pub tables_refused : {X : Type 0} (meaning : X → Contents) (bytes : List ℕ) (fault : TableFault) (code : Unread) → are_bytes bytes ≡ true → (fault ≡ Memory) ⊎ (reading bytes ≡ Err fault) → IsReason (tables_unread fault) code → (fault ≡ Memory → code ≡ OutOfMemory) → ReadsAs meaning (tables_read bytes) (Err code)
+tables_refused meaning bytes fault code test (inl memory) says wants =
+    subst (λ (c : Unread). ReadsAs meaning (tables_read bytes) (Err c)) (sym (wants memory)) tt
+tables_refused meaning bytes fault code test (inr is) says wants =
+    ReadsAs-reason meaning (tables_unread fault) (tables_read bytes) (tables_read-bytes bytes (Err fault) test is) code says

@@ -1,15 +1,15 @@
 -- What the endings of `tables` mean.
-use Rattle.std.proofs.Common.{◌≡◌, ℕ, ◌<◌, ◌==◌, Bool, true, false, cond, not, ◌&&◌, option_map, List, [], ◌∷◌, Some, Result, Ok, Err, refl, sym, ap, ◌∙◌, subst}
+use Rattle.std.proofs.Common.{◌≡◌, true, false, not, ◌&&◌, List, [], ◌∷◌, Some, Result, Ok, Err, refl, sym, ap, ◌∙◌, subst}
 use Rattle.std.specs.FinMap.{insert}
 use Rattle.std.specs.Io.KnownBytes.{Appends}
-use Rattle.std.specs.List.{AllByRecursion, find}
 use Rattle.std.specs.Str.{bytes_eq}
 use Rattle.std.proofs.lemmas.Bool.{not-true, and_parts, or_parts}
 use Rattle.std.proofs.lemmas.List.Elements.{All-from_recursion}
-use Rattle.goldilocks.specs.Field.{prime}
 use Rattle.casm_word.specs.Transition.{Registers}
 use Rattle.trace_files.specs.TraceFile.{IsState}
-use Rattle.trace_files.specs.MemoryFile.{Cell, IsCell, memory_of}
+use Rattle.goldilocks.specs.declared.Pair.{Pair}
+use Rattle.goldilocks.specs.Cells.{memory_of}
+use Rattle.goldilocks.proofs.Cells.{memory_of-low}
 use Rattle.program_file.specs.Listing.{Listing}
 use Rattle.public_input.specs.Statement.{Statement}
 use Rattle.table_file.specs.Tables.{Contents}
@@ -23,36 +23,25 @@ use Rattle.table_builder.proofs.BuiltTables.{built_tables}
 use Rattle.table_builder.proofs.OnlyTables.{only_built}
 use Rattle.file_port.specs.Files.{Name, Files}
 use Rattle.file_port.specs.Seen.{Seen, SinkSeen}
-use Rattle.call_words.specs.Names.{is_among, stand_apart, are_names}
-use Rattle.cairo_commands.specs.declared.status.Status.{Status}
-use Rattle.cairo_commands.specs.declared.status.Status.TheVariants.{Done, Refused}
-use Rattle.cairo_commands.specs.Answer.{Answer, says, written}
-use Rattle.cairo_commands.specs.Reading.{◌>>=◌, read_as}
-use Rattle.cairo_commands.specs.Perform.{Replied}
-use Rattle.cairo_commands.specs.Programs.{program_read}
-use Rattle.cairo_commands.specs.TableInputs.{public_read}
-use Rattle.cairo_commands.specs.RunFiles.{trace_read, cells_read}
+use Rattle.command_words.specs.Names.{is_among, stand_apart, are_names}
+use Rattle.command_frame.specs.declared.status.Status.{Status}
+use Rattle.command_frame.specs.declared.status.Status.TheVariants.{Done, Refused}
+use Rattle.command_frame.specs.Answer.{Answer, says, written}
+use Rattle.command_frame.specs.Formats.{◌>>=◌, read_as}
+use Rattle.command_frame.specs.Evidence.{Replied}
+use Rattle.cairo_commands.specs.Programs.{program_format}
+use Rattle.cairo_commands.specs.TableInputs.{public_format}
+use Rattle.cairo_commands.specs.RunFiles.{trace_format, memory_format}
 use Rattle.cairo_commands.specs.Commands.Check.{MeetsConstraints}
-use Rattle.cairo_commands.specs.Commands.Tables.{tables_program, tables_public, tables_trace, tables_memory, built_answer, tables_answer, refused_line, HoldsRun, BuildsTables, RefusesTables, TablesMeans}
-use Rattle.cairo_commands.proofs.Readings.{IsOwn, Done_is_own, Refused_is_own, read_ended, then_read}
+use Rattle.cairo_commands.specs.Commands.Tables.{built_answer, tables_answer, refused_line, HoldsRun, BuildsTables, RefusesTables, TablesMeans}
+use Rattle.command_frame.proofs.OwnStatus.{IsOwn, Done_is_own, Refused_is_own}
+use Rattle.command_frame.proofs.Readings.{read_ended, then_read}
 use Rattle.cairo_commands.proofs.HeldFiles.{program_is_read, HoldsProgram-from_read, public_is_read, HoldsPublic-from_read, trace_is_read, HoldsTrace-from_read, memory_is_read, HoldsMemory-from_read}
-use Rattle.cairo_commands.proofs.TableReadings.{length-spelled_tables}
-use Rattle.cairo_commands.proofs.WrittenFiles.{held_last, held_apart}
+use Rattle.table_file.proofs.Lengths.{length-spelled_tables}
+use Rattle.command_frame.proofs.WrittenFiles.{held_last, held_apart}
 use Rattle.cairo_commands.proofs.ReplyLaws.{settled_tables}
 
 -- ---- what is built of what files spell
-
--- the values of a memory are numbers of the field
-value_low : (cells : List Cell) → AllByRecursion IsCell cells → (a v : ℕ) → memory_of cells a ≡ Some v → v < prime
-unfolding memory_of
-value_low [] all a v found = cc
-value_low (c ∷ cells) all a v found = by_address (c.addr == a) found (value_low cells all.1 a v)
-  where
-    by_address : (b : Bool) → option_map (λ (x : Cell). x.value) (cond b (Some c) (find (λ (x : Cell). x.addr == a) cells)) ≡ Some v → (memory_of cells a ≡ Some v → v < prime) → v < prime
-    by_address true here behind =
-        let same : c.value ≡ v = cc in
-        subst (λ n. n < prime) same all.0.value
-    by_address false here behind = behind here
 
 -- the tables have neither the program's name nor that of the public input
 apart_names : (program public trace memory tables : Name) → are_names (program ∷ public ∷ trace ∷ memory ∷ []) (tables ∷ []) ≡ true → (bytes_eq program tables ≡ false) × (bytes_eq public tables ≡ false)
@@ -74,50 +63,50 @@ built_refused tables (Ok columns) ended = cc
 built_refused tables (Err found) ended = (found, refl)
 
 -- what is answered of the values of the four files
-of_values : Name → Listing → Statement → List Registers → List Cell → Answer
+of_values : Name → Listing → Statement → List Registers → List Pair → Answer
 of_values tables p u states cells = built_answer tables (building p u (memory_of cells) states)
 
 module _ (program public trace memory tables : Name) (files : Files) where
   -- all four files are read where an ending of its own is answered
-  reads_all : (status : Status) → IsOwn status → (tables_answer program public trace memory tables files).status ≡ status → (held : HoldsRun program public trace memory files) × ((of_values tables held.program.listed held.public.stated held.trace.states held.memory.cells).status ≡ status)
+  reads_all : (status : Status) → IsOwn status → (tables_answer program public trace memory tables files).status ≡ status → (held : HoldsRun program public trace memory files) × ((of_values tables held.program.value held.public.value held.trace.value held.memory.value).status ≡ status)
   unfolding tables_answer of_values
   reads_all status own ended =
-      let p = read_ended status own (tables_program program) _ files program_read ended in
-      let u = read_ended status own (tables_public public) _ files public_read p.2 in
-      let s = read_ended status own (tables_trace trace) _ files trace_read u.2 in
-      let c = read_ended status own (tables_memory memory) _ files cells_read s.2 in (
+      let p = read_ended status own program_format 1 program _ files ended in
+      let u = read_ended status own public_format 2 public _ files p.2 in
+      let s = read_ended status own trace_format 3 trace _ files u.2 in
+      let c = read_ended status own memory_format 4 memory _ files s.2 in (
         record {
-          program = HoldsProgram-from_read _ program files p.0 p.1;
-          public = HoldsPublic-from_read _ public files u.0 u.1;
-          trace = HoldsTrace-from_read _ trace files s.0 s.1;
-          memory = HoldsMemory-from_read _ memory files c.0 c.1;
+          program = HoldsProgram-from_read program files p.0 p.1;
+          public = HoldsPublic-from_read public files u.0 u.1;
+          trace = HoldsTrace-from_read trace files s.0 s.1;
+          memory = HoldsMemory-from_read memory files c.0 c.1;
         },
         c.2,
       )
 
   module _ (held : HoldsRun program public trace memory files) where
     -- what is answered where all four files are read
-    tables_answer-read : tables_answer program public trace memory tables files ≡ of_values tables held.program.listed held.public.stated held.trace.states held.memory.cells
+    tables_answer-read : tables_answer program public trace memory tables files ≡ of_values tables held.program.value held.public.value held.trace.value held.memory.value
     unfolding tables_answer of_values
     tables_answer-read =
-        then_read program_read (tables_program program) files held.program.listed (program_is_read _ program files held.program) (λ p. read_as public_read (tables_public public) files >>= λ u. read_as trace_read (tables_trace trace) files >>= λ states. read_as cells_read (tables_memory memory) files >>= λ cells. Ok (of_values tables p u states cells))
-        ∙ (then_read public_read (tables_public public) files held.public.stated (public_is_read _ public files held.public) (λ u. read_as trace_read (tables_trace trace) files >>= λ states. read_as cells_read (tables_memory memory) files >>= λ cells. Ok (of_values tables held.program.listed u states cells))
-        ∙ (then_read trace_read (tables_trace trace) files held.trace.states (trace_is_read _ trace files held.trace) (λ states. read_as cells_read (tables_memory memory) files >>= λ cells. Ok (of_values tables held.program.listed held.public.stated states cells))
-        ∙ then_read cells_read (tables_memory memory) files held.memory.cells (memory_is_read _ memory files held.memory) (λ cells. Ok (of_values tables held.program.listed held.public.stated held.trace.states cells))))
+        then_read program_format 1 program files held.program.value (program_is_read program files held.program) (λ p. read_as public_format 2 public files >>= λ u. read_as trace_format 3 trace files >>= λ states. read_as memory_format 4 memory files >>= λ cells. Ok (of_values tables p u states cells))
+        ∙ (then_read public_format 2 public files held.public.value (public_is_read public files held.public) (λ u. read_as trace_format 3 trace files >>= λ states. read_as memory_format 4 memory files >>= λ cells. Ok (of_values tables held.program.value u states cells))
+        ∙ (then_read trace_format 3 trace files held.trace.value (trace_is_read trace files held.trace) (λ states. read_as memory_format 4 memory files >>= λ cells. Ok (of_values tables held.program.value held.public.value states cells))
+        ∙ then_read memory_format 4 memory files held.memory.value (memory_is_read memory files held.memory) (λ cells. Ok (of_values tables held.program.value held.public.value held.trace.value cells))))
 
-    module _ (columns : Contents) (built : building held.program.listed held.public.stated (memory_of held.memory.cells) held.trace.states ≡ Ok columns) where
+    module _ (columns : Contents) (built : building held.program.value held.public.value (memory_of held.memory.value) held.trace.value ≡ Ok columns) where
       -- the bytes that are written spell the tables that are built
       written_spells : SpellsTables (spelling columns) columns
       written_spells =
-          let m = memory_of held.memory.cells in
-          let values = value_low held.memory.cells held.memory.spelled.numbers in
-          let low = All-from_recursion IsState held.trace.states held.trace.spelled.numbers in
+          let m = memory_of held.memory.value in
+          let values = memory_of-low held.memory.value in
+          let low = All-from_recursion IsState held.trace.value held.trace.spelled.numbers in
           let is_program = held.program.spelled.program in
           let limits = held.public.spelled.limits in
           record {
             parts = refl;
-            valid = built_valid held.program.listed held.public.stated m held.trace.states values low is_program limits held.trace.spelled.least columns built;
-            sixteen = built_sixteen held.program.listed held.public.stated m held.trace.states values low is_program limits held.trace.spelled.least columns built;
+            valid = built_valid held.program.value held.public.value m held.trace.value values low is_program limits held.trace.spelled.least columns built;
+            sixteen = built_sixteen held.program.value held.public.value m held.trace.value values low is_program limits held.trace.spelled.least columns built;
           }
 
       -- with the program and the public input these meet every constraint, in the files that are left
@@ -130,39 +119,39 @@ module _ (program public trace memory tables : Name) (files : Files) where
                 bytes = held.program.bytes;
                 held = held_apart files tables program (spelling columns) apart.0 ∙ held.program.held;
                 short = held.program.short;
-                listed = held.program.listed;
+                value = held.program.value;
                 spelled = held.program.spelled;
               };
               public = record {
                 bytes = held.public.bytes;
                 held = held_apart files tables public (spelling columns) apart.1 ∙ held.public.held;
                 short = held.public.short;
-                stated = held.public.stated;
+                value = held.public.value;
                 spelled = held.public.spelled;
               };
               tables = record {
                 bytes = spelling columns;
                 held = held_last files tables (spelling columns);
                 short = length-spelled_tables (spelling columns) columns written_spells;
-                columns = columns;
+                value = columns;
                 spelled = written_spells;
               };
             };
-            meets = built_meets held.program.listed held.public.stated (memory_of held.memory.cells) held.trace.states (value_low held.memory.cells held.memory.spelled.numbers) (All-from_recursion IsState held.trace.states held.trace.spelled.numbers) held.program.spelled.program held.public.spelled.limits held.trace.spelled.least columns built;
+            meets = built_meets held.program.value held.public.value (memory_of held.memory.value) held.trace.value (memory_of-low held.memory.value) (All-from_recursion IsState held.trace.value held.trace.spelled.numbers) held.program.spelled.program held.public.spelled.limits held.trace.spelled.least columns built;
           }
 
   -- the tables of the run are what is built
-  is_built : (run : BuildsTables program public trace memory files) → building run.held.program.listed run.held.public.stated (memory_of run.held.memory.cells) run.held.trace.states ≡ Ok run.columns
+  is_built : (run : BuildsTables program public trace memory files) → building run.held.program.value run.held.public.value (memory_of run.held.memory.value) run.held.trace.value ≡ Ok run.columns
   is_built run =
-      only_built run.held.program.listed run.held.public.stated (memory_of run.held.memory.cells) run.held.trace.states
-      (value_low run.held.memory.cells run.held.memory.spelled.numbers) (All-from_recursion IsState run.held.trace.states run.held.trace.spelled.numbers) run.columns run.of_run
+      only_built run.held.program.value run.held.public.value (memory_of run.held.memory.value) run.held.trace.value
+      (memory_of-low run.held.memory.value) (All-from_recursion IsState run.held.trace.value run.held.trace.spelled.numbers) run.columns run.of_run
 
-  is_refused : (run : RefusesTables program public trace memory files) → building run.held.program.listed run.held.public.stated (memory_of run.held.memory.cells) run.held.trace.states ≡ Err run.found
+  is_refused : (run : RefusesTables program public trace memory files) → building run.held.program.value run.held.public.value (memory_of run.held.memory.value) run.held.trace.value ≡ Err run.found
   unfolding building
   is_refused run =
-      building-found (first_found (findings run.held.program.listed run.held.public.stated (memory_of run.held.memory.cells) run.held.trace.states))
-      (tables_of run.held.program.listed run.held.public.stated (memory_of run.held.memory.cells) run.held.trace.states) run.found
-      (FoundFirst-found (findings run.held.program.listed run.held.public.stated (memory_of run.held.memory.cells) run.held.trace.states) run.found run.first)
+      building-found (first_found (findings run.held.program.value run.held.public.value (memory_of run.held.memory.value) run.held.trace.value))
+      (tables_of run.held.program.value run.held.public.value (memory_of run.held.memory.value) run.held.trace.value) run.found
+      (FoundFirst-found (findings run.held.program.value run.held.public.value (memory_of run.held.memory.value) run.held.trace.value) run.found run.first)
 
   tables_answer-built : (run : BuildsTables program public trace memory files) → tables_answer program public trace memory tables files ≡ built_answer tables (Ok run.columns)
   unfolding of_values
@@ -176,27 +165,27 @@ module _ (program public trace memory tables : Name) (files : Files) where
   unfolding of_values
   BuildsTables-from_done done =
       let all = reads_all Done Done_is_own done in
-      let built = built_done tables (building all.0.program.listed all.0.public.stated (memory_of all.0.memory.cells) all.0.trace.states) all.1 in
+      let built = built_done tables (building all.0.program.value all.0.public.value (memory_of all.0.memory.value) all.0.trace.value) all.1 in
       record {
         held = all.0;
         columns = built.0;
         of_run =
-            built_tables all.0.program.listed all.0.public.stated (memory_of all.0.memory.cells) all.0.trace.states
-            (value_low all.0.memory.cells all.0.memory.spelled.numbers) (All-from_recursion IsState all.0.trace.states all.0.trace.spelled.numbers) all.0.public.spelled.limits built.0 built.1;
+            built_tables all.0.program.value all.0.public.value (memory_of all.0.memory.value) all.0.trace.value
+            (memory_of-low all.0.memory.value) (All-from_recursion IsState all.0.trace.value all.0.trace.spelled.numbers) all.0.public.spelled.limits built.0 built.1;
       }
 
   RefusesTables-from_refused : (tables_answer program public trace memory tables files).status ≡ Refused → RefusesTables program public trace memory files
   unfolding of_values building
   RefusesTables-from_refused ended =
       let all = reads_all Refused Refused_is_own ended in
-      let found = built_refused tables (building all.0.program.listed all.0.public.stated (memory_of all.0.memory.cells) all.0.trace.states) all.1 in
+      let found = built_refused tables (building all.0.program.value all.0.public.value (memory_of all.0.memory.value) all.0.trace.value) all.1 in
       record {
         held = all.0;
         found = found.0;
         first =
-            FoundFirst-from (findings all.0.program.listed all.0.public.stated (memory_of all.0.memory.cells) all.0.trace.states) found.0
-            (building-err (first_found (findings all.0.program.listed all.0.public.stated (memory_of all.0.memory.cells) all.0.trace.states))
-            (tables_of all.0.program.listed all.0.public.stated (memory_of all.0.memory.cells) all.0.trace.states) found.0 found.1);
+            FoundFirst-from (findings all.0.program.value all.0.public.value (memory_of all.0.memory.value) all.0.trace.value) found.0
+            (building-err (first_found (findings all.0.program.value all.0.public.value (memory_of all.0.memory.value) all.0.trace.value))
+            (tables_of all.0.program.value all.0.public.value (memory_of all.0.memory.value) all.0.trace.value) found.0 found.1);
       }
 
   -- the reply means what is said of `tables`

@@ -7,15 +7,16 @@ use Rattle.file_port.specs.Seen.{Seen, SinkSeen}
 use Rattle.casm_word.specs.Transition.{Registers, Outcome, outcome}
 use Rattle.casm_word.specs.Run.{steps, refused_from, first_refused}
 use Rattle.casm_word.proofs.RefusedRuns.{IsStep, AreNext-from_none, none-from_AreNext, IsFirstRefused-from, refused_from-first}
-use Rattle.cairo_commands.specs.declared.status.Status.{Status}
-use Rattle.cairo_commands.specs.declared.status.Status.TheVariants.{Done, Refused}
-use Rattle.trace_files.specs.MemoryFile.{memory_of}
-use Rattle.cairo_commands.specs.Answer.{Answer, says}
-use Rattle.cairo_commands.specs.Reading.{◌>>=◌, read_as}
-use Rattle.cairo_commands.specs.RunFiles.{trace_read, cells_read}
-use Rattle.cairo_commands.specs.Perform.{Replied}
-use Rattle.cairo_commands.specs.Commands.Walk.{walk_trace, walk_memory, walked, walk_answer, steps_line, refused_line, SpellsWalk, WalksLegally, WalkIsRefused, WalkMeans}
-use Rattle.cairo_commands.proofs.Readings.{IsOwn, Done_is_own, Refused_is_own, read_ended, then_read}
+use Rattle.command_frame.specs.declared.status.Status.{Status}
+use Rattle.command_frame.specs.declared.status.Status.TheVariants.{Done, Refused}
+use Rattle.goldilocks.specs.Cells.{memory_of}
+use Rattle.command_frame.specs.Answer.{Answer, says}
+use Rattle.command_frame.specs.Formats.{◌>>=◌, read_as}
+use Rattle.cairo_commands.specs.RunFiles.{trace_format, memory_format}
+use Rattle.command_frame.specs.Evidence.{Replied}
+use Rattle.cairo_commands.specs.Commands.Walk.{walked, walk_answer, steps_line, refused_line, SpellsWalk, WalksLegally, WalkIsRefused, WalkMeans}
+use Rattle.command_frame.proofs.OwnStatus.{IsOwn, Done_is_own, Refused_is_own}
+use Rattle.command_frame.proofs.Readings.{read_ended, then_read}
 use Rattle.cairo_commands.proofs.HeldFiles.{trace_is_read, HoldsTrace-from_read, memory_is_read, HoldsMemory-from_read}
 
 -- ---- what `walk` answers
@@ -30,54 +31,54 @@ walked_refused states (Some found) ended = (found, refl)
 
 module _ (trace memory : Name) (files : Files) where
   -- both files are read where an ending of its own is answered
-  reads_both : (status : Status) → IsOwn status → (walk_answer trace memory files).status ≡ status → (both : SpellsWalk trace memory files) × ((walked both.trace.states (first_refused (memory_of both.memory.cells) both.trace.states)).status ≡ status)
+  reads_both : (status : Status) → IsOwn status → (walk_answer trace memory files).status ≡ status → (both : SpellsWalk trace memory files) × ((walked both.trace.value (first_refused (memory_of both.memory.value) both.trace.value)).status ≡ status)
   unfolding walk_answer
   reads_both status own ended =
-      let states = read_ended status own (walk_trace trace) _ files trace_read ended in
-      let cells = read_ended status own (walk_memory memory) _ files cells_read states.2 in (
+      let states = read_ended status own trace_format 1 trace _ files ended in
+      let cells = read_ended status own memory_format 2 memory _ files states.2 in (
         record {
-          trace = HoldsTrace-from_read _ trace files states.0 states.1;
-          memory = HoldsMemory-from_read _ memory files cells.0 cells.1;
+          trace = HoldsTrace-from_read trace files states.0 states.1;
+          memory = HoldsMemory-from_read memory files cells.0 cells.1;
         },
         cells.2,
       )
 
   module _ (both : SpellsWalk trace memory files) where
     -- what is answered where both files are read
-    walk_answer-read : walk_answer trace memory files ≡ walked both.trace.states (first_refused (memory_of both.memory.cells) both.trace.states)
+    walk_answer-read : walk_answer trace memory files ≡ walked both.trace.value (first_refused (memory_of both.memory.value) both.trace.value)
     unfolding walk_answer
     walk_answer-read =
-        then_read trace_read (walk_trace trace) files both.trace.states (trace_is_read _ trace files both.trace) (λ states. read_as cells_read (walk_memory memory) files >>= λ cells. Ok (walked states (first_refused (memory_of cells) states)))
-        ∙ then_read cells_read (walk_memory memory) files both.memory.cells (memory_is_read _ memory files both.memory) (λ cells. Ok (walked both.trace.states (first_refused (memory_of cells) both.trace.states)))
+        then_read trace_format 1 trace files both.trace.value (trace_is_read trace files both.trace) (λ states. read_as memory_format 2 memory files >>= λ cells. Ok (walked states (first_refused (memory_of cells) states)))
+        ∙ then_read memory_format 2 memory files both.memory.value (memory_is_read memory files both.memory) (λ cells. Ok (walked both.trace.value (first_refused (memory_of cells) both.trace.value)))
 
-  walk_answer-legal : (walk : WalksLegally trace memory files) → walk_answer trace memory files ≡ says Done (steps_line (length walk.spelled.trace.states - 1))
+  walk_answer-legal : (walk : WalksLegally trace memory files) → walk_answer trace memory files ≡ says Done (steps_line (length walk.spelled.trace.value - 1))
   unfolding first_refused
   walk_answer-legal walk =
-      let all = recursion_from_All (IsStep (memory_of walk.spelled.memory.cells)) (steps walk.spelled.trace.states) walk.legal.each_next in
+      let all = recursion_from_All (IsStep (memory_of walk.spelled.memory.value)) (steps walk.spelled.trace.value) walk.legal.each_next in
       walk_answer-read walk.spelled
-      ∙ ap (walked walk.spelled.trace.states) (none-from_AreNext (memory_of walk.spelled.memory.cells) 0 (steps walk.spelled.trace.states) all)
+      ∙ ap (walked walk.spelled.trace.value) (none-from_AreNext (memory_of walk.spelled.memory.value) 0 (steps walk.spelled.trace.value) all)
 
   walk_answer-refused : (walk : WalkIsRefused trace memory files) → walk_answer trace memory files ≡ says Refused (refused_line walk.step walk.found)
   unfolding first_refused
   walk_answer-refused walk =
-      let m = memory_of walk.spelled.memory.cells in
-      let all = recursion_from_All (IsStep m) (take walk.step (steps walk.spelled.trace.states)) walk.legal_before in
+      let m = memory_of walk.spelled.memory.value in
+      let all = recursion_from_All (IsStep m) (take walk.step (steps walk.spelled.trace.value)) walk.legal_before in
       let place : 0 + walk.step ≡ walk.step = omega arith in
-      let first : refused_from m 0 (steps walk.spelled.trace.states) ≡ Some (walk.step, walk.found) =
-      refused_from-first m 0 (steps walk.spelled.trace.states) walk.step (walk.from, walk.to) walk.at all walk.not_next
+      let first : refused_from m 0 (steps walk.spelled.trace.value) ≡ Some (walk.step, walk.found) =
+      refused_from-first m 0 (steps walk.spelled.trace.value) walk.step (walk.from, walk.to) walk.at all walk.not_next
       ∙ (ap (λ n. Some (n, outcome m walk.from)) place ∙ ap (λ o. Some (walk.step, o)) (sym walk.cause)) in
-      walk_answer-read walk.spelled ∙ ap (walked walk.spelled.trace.states) first
+      walk_answer-read walk.spelled ∙ ap (walked walk.spelled.trace.value) first
 
   WalksLegally-from_done : (walk_answer trace memory files).status ≡ Done → WalksLegally trace memory files
   unfolding first_refused
   WalksLegally-from_done done =
       let both = reads_both Done Done_is_own done in
-      let none = walked_done both.0.trace.states (first_refused (memory_of both.0.memory.cells) both.0.trace.states) both.1 in
+      let none = walked_done both.0.trace.value (first_refused (memory_of both.0.memory.value) both.0.trace.value) both.1 in
       record {
         spelled = both.0;
         legal = record {
           has_step = both.0.trace.spelled.least;
-          each_next = All-from_recursion (IsStep (memory_of both.0.memory.cells)) (steps both.0.trace.states) (AreNext-from_none (memory_of both.0.memory.cells) 0 (steps both.0.trace.states) none);
+          each_next = All-from_recursion (IsStep (memory_of both.0.memory.value)) (steps both.0.trace.value) (AreNext-from_none (memory_of both.0.memory.value) 0 (steps both.0.trace.value) none);
         };
       }
 
@@ -85,9 +86,9 @@ module _ (trace memory : Name) (files : Files) where
   unfolding first_refused
   WalkIsRefused-from_refused ended =
       let both = reads_both Refused Refused_is_own ended in
-      let m = memory_of both.0.memory.cells in
-      let found = walked_refused both.0.trace.states (first_refused m both.0.trace.states) both.1 in
-      let first = IsFirstRefused-from m 0 (steps both.0.trace.states) found.0.0 found.0.1 found.1 in
+      let m = memory_of both.0.memory.value in
+      let found = walked_refused both.0.trace.value (first_refused m both.0.trace.value) both.1 in
+      let first = IsFirstRefused-from m 0 (steps both.0.trace.value) found.0.0 found.0.1 found.1 in
       record {
         spelled = both.0;
         step = first.0;
@@ -95,7 +96,7 @@ module _ (trace memory : Name) (files : Files) where
         to = first.2.pair.1;
         found = found.0.1;
         at = first.2.at;
-        legal_before = All-from_recursion (IsStep m) (take first.0 (steps both.0.trace.states)) first.2.before;
+        legal_before = All-from_recursion (IsStep m) (take first.0 (steps both.0.trace.value)) first.2.before;
         not_next = first.2.refused;
         cause = first.2.cause;
       }

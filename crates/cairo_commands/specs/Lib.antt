@@ -1,7 +1,4 @@
-pub mod Status
-pub mod Answer
 pub mod Request
-pub mod Reading
 pub mod RunFiles
 pub mod Programs
 pub mod TableInputs
@@ -15,7 +12,15 @@ pub use Rattle.casm_word.specs.Run
 pub use Rattle.casm_word.specs.Text
 pub use Rattle.trace_files.specs.TraceFile
 pub use Rattle.trace_files.specs.MemoryFile
-pub use Rattle.call_words.specs.Names
+pub use Rattle.command_words.specs.Names
+pub use Rattle.command_words.specs.Numbers
+pub use Rattle.command_words.specs.Forms
+pub use Rattle.command_words.specs.Calls
+pub use Rattle.command_frame.specs.Status
+pub use Rattle.command_frame.specs.Answer
+pub use Rattle.command_frame.specs.Formats
+pub use Rattle.command_frame.specs.Evidence
+pub use Rattle.command_frame.specs.Finishes
 pub use Rattle.file_port.specs.Files
 pub use Rattle.file_port.specs.Counts
 pub use Rattle.file_port.specs.Ports

@@ -1,7 +1,7 @@
 -- What the endings of the commands mean. Own.
 use Rattle.std.specs.Prelude.{ℕ, List, Option}
 use Rattle.file_port.specs.Files.{Files}
-use Rattle.cairo_commands.specs.declared.status.Status.{Status}
+use Rattle.command_frame.specs.declared.status.Status.{Status}
 use Rattle.cairo_commands.specs.Request.{Request, Walk, Asm, Dis, Tables, Check}
 use Rattle.cairo_commands.specs.Commands.Walk.{WalkMeans}
 use Rattle.cairo_commands.specs.Commands.Asm.{AsmMeans}

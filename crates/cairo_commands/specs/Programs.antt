@@ -1,37 +1,29 @@
--- Assembly texts and program files, as inputs and as outputs. Own.
-use Rattle.std.specs.Prelude.{◌≡◌, ◌≤◌, ℕ, ◌++◌, List, length, true, Some, Result}
-use Rattle.file_port.specs.Files.{Name, Files, file_at}
+-- Assembly texts and program files as formats, and each as the other. Own.
+use Rattle.std.specs.Prelude.{ℕ, ◌++◌, List, true, Result}
+use Rattle.file_port.specs.Files.{Name, Files}
 use Rattle.casm_statements.specs.declared.Item.{Item}
 use Rattle.casm_tokens.specs.Lines.{Fault}
 use Rattle.casm_tokens.specs.declared.fault.ParseFault.{ParseFault}
 use Rattle.casm_tokens.specs.declared.fault.ParseFault.TheVariants.{Syntax, Memory as NoMemory}
 use Rattle.casm_tokens.specs.FaultText.{syntax_text, parse_fault_text}
-use Rattle.casm_tokens.specs.Limits.{most_bytes}
+use Rattle.casm_tokens.specs.Limits.{text_limit}
 use Rattle.casm_text.specs.TextReading.{text_reading}
 use Rattle.assembler.specs.declared.fault.AsmFault.{AsmFault}
 use Rattle.assembler.specs.declared.fault.AsmFault.TheVariants.{Duplicate, TooLong, Unknown, NoEnd, StartOutside, EndOutside, Memory}
 use Rattle.assembler.specs.FaultText.{fault_text as assembly_text}
 use Rattle.assembler.specs.Assembling.{Assembly, assembling}
 use Rattle.assembler.specs.Disassembly.{directives, on_lines}
-use Rattle.assembler.proofs.ShownLemmas.{shown_as_some}
+use Rattle.assembler.specs.ShownBodies.{shown_bodies}
 use Rattle.program_file.specs.declared.faults.ProgramFault.{ProgramFault}
 use Rattle.program_file.specs.declared.faults.ProgramFault.TheVariants as program_fault
 use Rattle.program_file.specs.Shown.{fault_text}
 use Rattle.program_file.specs.Listing.{Listing}
 use Rattle.program_file.specs.Format.{SpellsProgram}
+use Rattle.program_file.specs.Limits.{program_limit}
 use Rattle.program_file.specs.Reading.{reading}
-use Rattle.cairo_commands.specs.Answer.{Input}
-use Rattle.cairo_commands.specs.Reading.{◌>>=◌, Unread, TooMuch, Faulty, told}
-
--- The most bytes that an assembly text or a program file may have. Own.
-abbrev pub text_limit : ℕ
-text_limit = most_bytes
+use Rattle.command_frame.specs.Formats.{◌>>=◌, Unread, TooMuch, Faulty, Format, Holds, told}
 
 -- ---- assembly texts
-
--- An assembly text as the input at a position. Own.
-abbrev pub text_input : ℕ → Name → Input
-text_input position name = record { position = position; name = name; limit = text_limit; may_have_too_many = true }
 
 -- Why a text has no items. Own.
 abbrev pub syntax_unread : Fault → Unread
@@ -64,11 +56,11 @@ assembly_read items = told assembly_unread (assembling items)
 abbrev pub text_read : List ℕ → Result Assembly Unread
 text_read bytes = items_read bytes >>= assembly_read
 
--- ---- program files
+-- Assembly texts. Own.
+abbrev pub text_format : Format Assembly
+text_format = record { limit = text_limit; may_have_too_many = true; reading = text_read }
 
--- A program file as the input at a position. Own.
-abbrev pub program_input : ℕ → Name → Input
-program_input position name = record { position = position; name = name; limit = text_limit; may_have_too_many = true }
+-- ---- program files
 
 -- Why bytes are no program file. Own.
 abbrev pub program_unread : ProgramFault → Unread
@@ -81,17 +73,17 @@ program_unread program_fault.Builtin = Faulty (fault_text program_fault.Builtin)
 program_unread (program_fault.Label key) = Faulty (fault_text (program_fault.Label key))
 program_unread program_fault.Memory = Faulty (fault_text program_fault.Memory)
 
--- The program that the bytes of a program file are read as. Own.
-abbrev pub program_read : List ℕ → Result Listing Unread
-program_read bytes = told program_unread (reading bytes)
+-- Program files. Own.
+abbrev pub program_format : Format Listing
+program_format = record {
+  limit = program_limit;
+  may_have_too_many = true;
+  reading = λ bytes. told program_unread (reading bytes);
+}
 
 -- The files have a file of this name, within the limit of a program file, and its bytes spell a program. Own.
-pub record HoldsProgram (name : Name) (files : Files) : Type 0 where
-  pub bytes : List ℕ
-  pub held : file_at files name ≡ Some bytes
-  pub short : length bytes ≤ text_limit
-  pub listed : Listing
-  pub spelled : SpellsProgram bytes listed
+abbrev pub HoldsProgram : Name → Files → Type 0
+HoldsProgram name files = Holds program_format SpellsProgram name files
 
 -- ---- one as the other
 
@@ -100,7 +92,6 @@ abbrev pub listing_of : Assembly → Listing
 listing_of a = record { words = a.words; start = a.start; end = a.end; builtins = record { output = a.output; range = a.range } }
 
 -- The items that a program is shown as, on lines of their own: its directives, and the bodies that its words are shown
--- as. The list is taken from the proof that there is one (`shown_as_some`), which needn't be read. There is exactly one
--- such list, and `one_list` of `again_laws` says which it is. Own.
+-- as. There is exactly one such list, and `one_list` of `again_laws` says which it is. Own.
 unfoldable pub items_of : Listing → List Item
-items_of p = on_lines 1 (directives p.start p.end p.builtins.output p.builtins.range ++ (shown_as_some p.words).0)
+items_of p = on_lines 1 (directives p.start p.end p.builtins.output p.builtins.range ++ shown_bodies p.words)

@@ -7,12 +7,12 @@ ghost use Rattle.assembler.specs.Assembling.{assembly_of};
 ghost use Rattle.assembler.specs.Disassembly.{Disassembles};
 ghost use Rattle.program_file.specs.Listing.{Listing};
 ghost use Rattle.program_file.specs.Format.{written as program_bytes};
-ghost use Rattle.cairo_commands.specs.Answer.{written};
+ghost use Rattle.command_frame.specs.Answer.{written};
 ghost use Rattle.cairo_commands.specs.Programs.{HoldsProgram, listing_of, items_of};
 ghost use Rattle.cairo_commands.specs.Commands.Asm.{Assembles, asm_answer, asm_line};
 ghost use Rattle.cairo_commands.specs.Commands.Dis.{dis_answer, text_answer};
 
-use crate::Status;
+use command_frame::Status;
 
 /// The text that `dis` writes for a program is assembled by `asm` to the same words, places and builtins, and so to the
 /// program file that is written for them.
@@ -24,8 +24,8 @@ pub fn again_laws()
     ensures dis_then_asm { (program text copy : Name) (files : Files) (dis : HoldsProgram program files) →
         asm_answer text copy (written (dis_answer program text files).writes files) ≡ record {
           status = Status.Done;
-          writes = (copy, program_bytes dis.listed) ∷ [];
-          line = asm_line (length dis.listed.words);
+          writes = (copy, program_bytes dis.value) ∷ [];
+          line = asm_line (length dis.value.words);
         } }
     ensures asm_then_dis { (text program copy : Name) (files : Files) (asm : Assembles text files) →
         dis_answer program copy (written (asm_answer text program files).writes files)

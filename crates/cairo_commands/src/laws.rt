@@ -1,14 +1,21 @@
 //! Laws of the definitions: functions that do nothing, and whose contracts say what always holds.
 
-ghost use Rattle.std.specs.Prelude.{◌≡◌, ◌≢◌, List, [], map, String};
+ghost use Rattle.std.specs.Prelude.{◌≡◌, ◌≢◌, ◌≤◌, ℕ, List, [], length, map, String};
 ghost use Rattle.std.specs.declared.alloc.Global.{Global};
-ghost use Rattle.file_port.specs.Files.{Files};
-ghost use Rattle.cairo_commands.specs.Status.{IsDecided};
-ghost use Rattle.cairo_commands.specs.Reply.{reply, request_of, outputs_of};
-ghost use Rattle.cairo_commands.specs.Perform.{CountsNoFault};
+ghost use Rattle.std.specs.List.{Contains};
+ghost use Rattle.file_port.specs.Files.{Name, Files};
+ghost use Rattle.casm_word.specs.Transition.{Registers};
+ghost use Rattle.trace_files.specs.TraceFile.{SpellsTrace};
+ghost use Rattle.goldilocks.specs.declared.Pair.{Pair};
+ghost use Rattle.trace_files.specs.MemoryFile.{SpellsMemory};
+ghost use Rattle.command_frame.specs.Status.{IsDecided};
+ghost use Rattle.command_frame.specs.Answer.{outputs_of};
+ghost use Rattle.command_words.specs.Forms.{CommandForm, forms};
+ghost use Rattle.command_words.specs.Calls.{Call, KeepsForm};
+ghost use Rattle.cairo_commands.specs.RunFiles.{trace_format, memory_format};
+ghost use Rattle.cairo_commands.specs.Reply.{reply, task_of, KeepsPlaces};
 
-use crate::status::Status;
-use file_port::{Sink, Store, SureSink, SureStore};
+use command_frame::Status;
 
 /// Each reply is decided by the words and the files. One that ends with `Done` writes the outputs of its command, in their
 /// order, and no other file; another writes none. So a command that is refused leaves all files as they were.
@@ -17,13 +24,18 @@ pub fn reply_laws()
     ensures nothing { (words : List (String Global)) (files : Files) →
         (reply words files).status ≢ Status.Done → (reply words files).writes ≡ [] }
     ensures outputs { (words : List (String Global)) (files : Files) → (reply words files).status ≡ Status.Done →
-        map (λ write. write.0) (reply words files).writes ≡ outputs_of (request_of words) }
+        map (λ write. write.0) (reply words files).writes ≡ outputs_of (task_of words) }
 {}
 
-/// Over a store and a sink in memory that never fail no call counts a fault, so [`perform`](crate::perform) is answered
-/// by the reply unless memory ran out.
-pub fn sure_laws()
-    ensures { (store store_after : SureStore) (sink sink_after : SureSink) →
-        CountsNoFault (⟦<SureStore as Store>⟧.seen store) (⟦<SureStore as Store>⟧.seen store_after)
-        (⟦<SureSink as Sink>⟧.seen sink) (⟦<SureSink as Sink>⟧.seen sink_after) }
+/// Bytes that spell states or cells are within the limit of their format. So where files are said to hold such bytes,
+/// no more is asked of them.
+pub fn limit_laws()
+    ensures trace { (bytes : List ℕ) (states : List Registers) → SpellsTrace bytes states → length bytes ≤ trace_format.limit }
+    ensures memory { (bytes : List ℕ) (cells : List Pair) → SpellsMemory bytes cells → length bytes ≤ memory_format.limit }
+{}
+
+/// What words ask for that keep a form reads the inputs of the form, and writes its outputs.
+pub fn position_laws()
+    ensures { (form : CommandForm) (words : List Name) (call : Call) → Contains forms form → KeepsForm form words call →
+        KeepsPlaces form call }
 {}

@@ -60,7 +60,7 @@ pub record Begins (b : Bounds) (l : Language) (ts : List Mark) : Type 0 where
   pub more : List Mark
   pub derives : Derives b l value (ts ++ more)
 
--- Tokens stop to begin a line of the language behind the first list, and the second list is the rest of them. The first
+-- Tokens stop to begin a line of the language after the first list, and the second list is the rest of them. The first
 -- token of the rest is wrong, or out of its bounds. Where there is no rest, more is missing. Own.
 abbrev pub IsFault : Language → List Mark → List Mark → SyntaxKind → Type 0
 IsFault l front [] k = (k ≡ kind.Token) × Begins Kept l front × ((v : List Body) → Derives Kept l v front → ⊥)

@@ -76,7 +76,7 @@ Refusal = ℕ × SyntaxKind
 abbrev pub Reading : Type 0 → Type 0
 Reading A = Result (A × List Mark) Refusal
 
--- Stop before these tokens. Own.
+-- The refusal at the first of these tokens. Own.
 abbrev pub refused : {A : Type 0} → List Mark → Result A Refusal
 refused ts = Err (length ts, kind.Token)
 

@@ -7,8 +7,8 @@ use Rattle.casm_statements.specs.declared.Body.{Body}
 use Rattle.casm_statements.specs.declared.Body.TheVariants as body
 use Rattle.casm_tokens.specs.declared.marks.Lexeme.{Lexeme}
 use Rattle.casm_tokens.specs.Marks.{Mark, mark_of}
-use Rattle.casm_grammar.specs.declared.phrase.Place.{Place}
-use Rattle.casm_grammar.specs.declared.phrase.Place.TheVariants as place_is
+use Rattle.casm_grammar.specs.declared.phrase.TargetRef.{TargetRef}
+use Rattle.casm_grammar.specs.declared.phrase.TargetRef.TheVariants as target_ref
 use Rattle.casm_grammar.specs.declared.phrase.Phrase.{Phrase}
 use Rattle.casm_grammar.specs.declared.phrase.Phrase.TheVariants as phrase
 use Rattle.casm_grammar.specs.declared.phrase.Line.{Line}
@@ -17,10 +17,10 @@ use Rattle.casm_grammar.specs.declared.phrase.Line.{Line}
 abbrev pub seen : List Lexeme → List Mark
 seen = map (λ t. mark_of t.mark)
 
--- The place of a directive, with the label's bytes. Own.
-abbrev pub target_of : Place → Target
-target_of (place_is.Number n) = target_is.Number n
-target_of (place_is.Name l) = target_is.Name l.text.now
+-- The target of a directive, with the label's bytes. Own.
+abbrev pub target_of : TargetRef → Target
+target_of (target_ref.Number n) = target_is.Number n
+target_of (target_ref.Name l) = target_is.Name l.text.now
 
 -- What a phrase means. Own.
 abbrev pub body_of : Phrase → Body

@@ -7,10 +7,10 @@ mod line;
 mod marks;
 mod parts;
 mod phrase;
+mod refusal;
 mod statements;
-mod stop;
 
 pub use directive::{Directive, directive_word};
 pub use laws::line_laws;
 pub use line::{LineFault, read_line};
-pub use phrase::{Line, Phrase, Place};
+pub use phrase::{Line, Phrase, TargetRef};

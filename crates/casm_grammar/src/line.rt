@@ -13,26 +13,26 @@ use crate::directive::Directive;
 use crate::marks::{
     after_directive, after_sign, expect_sign, label, nothing, number_up_to, refused,
 };
-use crate::phrase::{Line, Phrase, Place};
+use crate::phrase::{Line, Phrase, TargetRef};
+use crate::refusal::{Parsed, Refusal};
 use crate::statements::statement;
-use crate::stop::{Parsed, Stop};
 use casm_tokens::{Lexeme, Mark, Symbol, SyntaxKind};
 
 /// The place that a directive gives.
 #[tactic(auto, unfolding(casm_tokens::specs::Marks::mark_of, crate::specs::Readers::target_in))]
-fn target<'a>(tokens: &'a [Lexeme<'a>]) -> Parsed<'a, Place<'a>>
+fn target<'a>(tokens: &'a [Lexeme<'a>]) -> Parsed<'a, TargetRef<'a>>
     ensures { seen_reading target_of result ≡ target_in (seen tokens.now) }
 {
     let Some((first, rest)) = tokens.split_first() else {
         return Err(refused(tokens));
     };
     match first.mark {
-        Mark::Label(name) => Ok((Place::Name(name), rest)),
+        Mark::Label(name) => Ok((TargetRef::Name(name), rest)),
         Mark::Number(value) => {
             if value.number <= 4294967295 {
-                Ok((Place::Number(value.number as u32), rest))
+                Ok((TargetRef::Number(value.number as u32), rest))
             } else {
-                Err(Stop {
+                Err(Refusal {
                     left: rest.len() + 1,
                     kind: SyntaxKind::Range,
                 })
@@ -56,7 +56,7 @@ fn given<'a>(tokens: &'a [Lexeme<'a>], word: Directive) -> (bool, &'a [Lexeme<'a
 
 /// What follows `builtins`.
 #[tactic(auto, unfolding(crate::specs::Readers::builtins_in))]
-fn builtins<'a>(tokens: &'a [Lexeme<'a>]) -> Result<Phrase<'a>, Stop>
+fn builtins<'a>(tokens: &'a [Lexeme<'a>]) -> Result<Phrase<'a>, Refusal>
     ensures { seen_all body_of result ≡ builtins_in (seen tokens.now) }
 {
     let (output, rest) = given(tokens, Directive::Output);
@@ -67,7 +67,7 @@ fn builtins<'a>(tokens: &'a [Lexeme<'a>]) -> Result<Phrase<'a>, Stop>
 
 /// What follows `start`.
 #[tactic(auto, unfolding(crate::specs::Readers::place_in))]
-fn start<'a>(tokens: &'a [Lexeme<'a>]) -> Result<Phrase<'a>, Stop>
+fn start<'a>(tokens: &'a [Lexeme<'a>]) -> Result<Phrase<'a>, Refusal>
     ensures { seen_all body_of result ≡ place_in (λ t. body_is.Start t) (seen tokens.now) }
 {
     let (place, rest) = target(tokens)?;
@@ -77,7 +77,7 @@ fn start<'a>(tokens: &'a [Lexeme<'a>]) -> Result<Phrase<'a>, Stop>
 
 /// What follows `end`.
 #[tactic(auto, unfolding(crate::specs::Readers::place_in))]
-fn end<'a>(tokens: &'a [Lexeme<'a>]) -> Result<Phrase<'a>, Stop>
+fn end<'a>(tokens: &'a [Lexeme<'a>]) -> Result<Phrase<'a>, Refusal>
     ensures { seen_all body_of result ≡ place_in (λ t. body_is.End t) (seen tokens.now) }
 {
     let (place, rest) = target(tokens)?;
@@ -87,7 +87,7 @@ fn end<'a>(tokens: &'a [Lexeme<'a>]) -> Result<Phrase<'a>, Stop>
 
 /// What follows `%`.
 #[tactic(auto, unfolding(crate::specs::Readers::setting_in))]
-fn setting<'a>(tokens: &'a [Lexeme<'a>]) -> Result<Phrase<'a>, Stop>
+fn setting<'a>(tokens: &'a [Lexeme<'a>]) -> Result<Phrase<'a>, Refusal>
     ensures { seen_all body_of result ≡ setting_in (seen tokens.now) }
 {
     if let Some(rest) = after_directive(tokens, Directive::Builtins) {
@@ -103,7 +103,7 @@ fn setting<'a>(tokens: &'a [Lexeme<'a>]) -> Result<Phrase<'a>, Stop>
 
 /// A statement, or nothing.
 #[tactic(auto, unfolding(crate::specs::Readers::said_in))]
-fn said<'a>(tokens: &'a [Lexeme<'a>]) -> Result<Option<Phrase<'a>>, Stop>
+fn said<'a>(tokens: &'a [Lexeme<'a>]) -> Result<Option<Phrase<'a>>, Refusal>
     ensures { seen_all phrase_of result ≡ said_in (seen tokens.now) }
 {
     if tokens.is_empty() {
@@ -115,7 +115,7 @@ fn said<'a>(tokens: &'a [Lexeme<'a>]) -> Result<Option<Phrase<'a>>, Stop>
 
 /// A label, and what it stands before.
 #[tactic(auto, unfolding(crate::specs::Readers::named_in))]
-fn named<'a>(tokens: &'a [Lexeme<'a>]) -> Result<Line<'a>, Stop>
+fn named<'a>(tokens: &'a [Lexeme<'a>]) -> Result<Line<'a>, Refusal>
     ensures { seen_all bodies_of result ≡ named_in (seen tokens.now) }
 {
     let (name, rest) = label(tokens)?;
@@ -140,7 +140,7 @@ fn begins_label(tokens: &[Lexeme<'_>]) -> bool
 
 /// The line that the tokens are.
 #[tactic(auto, unfolding(crate::specs::Readers::line_in))]
-fn line<'a>(tokens: &'a [Lexeme<'a>]) -> Result<Line<'a>, Stop>
+fn line<'a>(tokens: &'a [Lexeme<'a>]) -> Result<Line<'a>, Refusal>
     ensures { seen_all bodies_of result ≡ line_in (seen tokens.now) }
 {
     if let Some(rest) = after_sign(tokens, Symbol::Percent) {
@@ -163,7 +163,7 @@ fn line<'a>(tokens: &'a [Lexeme<'a>]) -> Result<Line<'a>, Stop>
 /// The first fault of tokens that are no line.
 #[derive(Clone, Copy, Debug, PartialEq, Eq)]
 pub struct LineFault {
-    /// How many tokens stand before it: the fault is at the next token, or behind the last one.
+    /// How many tokens stand before it: the fault is at the next token, or after the last one.
     pub at: usize,
     /// [`SyntaxKind::Token`] or [`SyntaxKind::Range`].
     pub kind: SyntaxKind,
@@ -178,9 +178,9 @@ pub fn read_line<'a>(tokens: &'a [Lexeme<'a>]) -> Result<Line<'a>, LineFault>
 {
     match line(tokens) {
         Ok(line) => Ok(line),
-        Err(stop) => Err(LineFault {
-            at: tokens.len() - stop.left,
-            kind: stop.kind,
+        Err(refusal) => Err(LineFault {
+            at: tokens.len() - refusal.left,
+            kind: refusal.kind,
         }),
     }
 }

@@ -6,7 +6,7 @@ ghost use Rattle.casm_grammar.specs.Seen.{seen};
 ghost use Rattle.casm_grammar.specs.Views.{seen_rest, seen_after, seen_all, seen_reading};
 
 use crate::directive::{Directive, directive_word};
-use crate::stop::{Parsed, Stop};
+use crate::refusal::{Parsed, Refusal};
 use casm_statements::{Label, Reserved};
 use casm_tokens::{Lexeme, Mark, Symbol, SyntaxKind};
 use goldilocks::Felt;
@@ -32,11 +32,11 @@ fn directive_code(word: Directive) -> u8
     word as u8
 }
 
-/// The stop before these tokens.
-pub(crate) fn refused(tokens: &[Lexeme<'_>]) -> Stop
+/// The refusal at the first of these tokens.
+pub(crate) fn refused(tokens: &[Lexeme<'_>]) -> Refusal
     ensures { result ≡ record { left = length tokens.now; kind = SyntaxKind.Token } }
 {
-    Stop {
+    Refusal {
         left: tokens.len(),
         kind: SyntaxKind::Token,
     }
@@ -107,7 +107,7 @@ pub(crate) fn after_directive<'a>(
 pub(crate) fn expect_sign<'a>(
     tokens: &'a [Lexeme<'a>],
     sign: Symbol,
-) -> Result<&'a [Lexeme<'a>], Stop>
+) -> Result<&'a [Lexeme<'a>], Refusal>
     ensures { seen_after result ≡ expect_sign sign (seen tokens.now) }
 {
     match after_sign(tokens, sign) {
@@ -121,7 +121,7 @@ pub(crate) fn expect_sign<'a>(
 pub(crate) fn expect_word<'a>(
     tokens: &'a [Lexeme<'a>],
     word: Reserved,
-) -> Result<&'a [Lexeme<'a>], Stop>
+) -> Result<&'a [Lexeme<'a>], Refusal>
     ensures { seen_after result ≡ expect_word word (seen tokens.now) }
 {
     match after_word(tokens, word) {
@@ -154,7 +154,7 @@ pub(crate) fn number_up_to<'a>(tokens: &'a [Lexeme<'a>], most: u64) -> Parsed<'a
     if value.number <= most {
         Ok((value, rest))
     } else {
-        Err(Stop {
+        Err(Refusal {
             left: rest.len() + 1,
             kind: SyntaxKind::Range,
         })
@@ -163,14 +163,14 @@ pub(crate) fn number_up_to<'a>(tokens: &'a [Lexeme<'a>], most: u64) -> Parsed<'a
 
 /// The number 0.
 #[tactic(auto, unfolding(crate::specs::Readers::zero_in))]
-pub(crate) fn zero<'a>(tokens: &'a [Lexeme<'a>]) -> Result<&'a [Lexeme<'a>], Stop>
+pub(crate) fn zero<'a>(tokens: &'a [Lexeme<'a>]) -> Result<&'a [Lexeme<'a>], Refusal>
     ensures { seen_after result ≡ zero_in (seen tokens.now) }
 {
     let (value, rest) = number(tokens)?;
     if value.number == 0 {
         Ok(rest)
     } else {
-        Err(Stop {
+        Err(Refusal {
             left: rest.len() + 1,
             kind: SyntaxKind::Token,
         })
@@ -193,7 +193,7 @@ pub(crate) fn label<'a>(tokens: &'a [Lexeme<'a>]) -> Parsed<'a, Label<'a>>
 
 /// No token.
 #[tactic(auto, unfolding(crate::specs::Readers::nothing_in))]
-pub(crate) fn nothing(tokens: &[Lexeme<'_>]) -> Result<(), Stop>
+pub(crate) fn nothing(tokens: &[Lexeme<'_>]) -> Result<(), Refusal>
     ensures { seen_all (λ x. x) result ≡ nothing_in (seen tokens.now) }
 {
     if tokens.is_empty() {

@@ -8,7 +8,7 @@ ghost use Rattle.casm_grammar.specs.Views.{seen_all, seen_reading};
 use crate::marks::{
     after_sign, after_word, expect_sign, expect_word, nothing, number, number_up_to, refused, zero,
 };
-use crate::stop::{Parsed, Stop};
+use crate::refusal::{Parsed, Refusal};
 use casm_statements::{Cell, Operand, Reg, Reserved, Term};
 use casm_tokens::{Lexeme, Symbol};
 use goldilocks::Felt;
@@ -164,7 +164,7 @@ pub(crate) fn operand<'a>(tokens: &'a [Lexeme<'a>]) -> Parsed<'a, Operand>
 
 /// The end of a line, which a semicolon may stand before.
 #[tactic(auto, unfolding(crate::specs::Readers::end_in))]
-pub(crate) fn end(tokens: &[Lexeme<'_>]) -> Result<(), Stop>
+pub(crate) fn end(tokens: &[Lexeme<'_>]) -> Result<(), Refusal>
     ensures { seen_all (λ x. x) result ≡ end_in (seen tokens.now) }
 {
     match after_sign(tokens, Symbol::Semicolon) {
@@ -175,7 +175,7 @@ pub(crate) fn end(tokens: &[Lexeme<'_>]) -> Result<(), Stop>
 
 /// `++` and the end of a line.
 #[tactic(auto, unfolding(crate::specs::Readers::increment_in))]
-fn increment(tokens: &[Lexeme<'_>]) -> Result<bool, Stop>
+fn increment(tokens: &[Lexeme<'_>]) -> Result<bool, Refusal>
     ensures { seen_all (λ x. x) result ≡ increment_in (seen tokens.now) }
 {
     let rest = expect_sign(tokens, Symbol::Increment)?;
@@ -185,7 +185,7 @@ fn increment(tokens: &[Lexeme<'_>]) -> Result<bool, Stop>
 
 /// The end of a line, and whether ap goes up by one.
 #[tactic(auto, unfolding(crate::specs::Readers::inc_in))]
-pub(crate) fn inc(tokens: &[Lexeme<'_>]) -> Result<bool, Stop>
+pub(crate) fn inc(tokens: &[Lexeme<'_>]) -> Result<bool, Refusal>
     ensures { seen_all (λ x. x) result ≡ inc_in (seen tokens.now) }
 {
     if let Some(rest) = after_sign(tokens, Symbol::Semicolon) {

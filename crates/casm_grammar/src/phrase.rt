@@ -3,9 +3,9 @@
 use casm_statements::{Cell, Label, Stmt};
 use goldilocks::Felt;
 
-/// The place that a directive gives.
+/// The target of a directive, with a name that is borrowed.
 #[derive(Clone, Copy, Debug)]
-pub enum Place<'a> {
+pub enum TargetRef<'a> {
     /// A number.
     Number(u32),
     /// A label.
@@ -23,9 +23,9 @@ pub enum Phrase<'a> {
         range: bool,
     },
     /// `%start`
-    Start(Place<'a>),
+    Start(TargetRef<'a>),
     /// `%end`
-    End(Place<'a>),
+    End(TargetRef<'a>),
     /// A statement without labels.
     Stmt(Stmt),
     /// A jump to a label.

@@ -7,13 +7,13 @@ ghost use Rattle.casm_grammar.specs.Views.{seen_all};
 use crate::marks::{after_sign, after_word, expect_sign, label, refused};
 use crate::parts::{condition, end, immediate, inc, operand, rest_of_cell, term};
 use crate::phrase::Phrase;
-use crate::stop::Stop;
+use crate::refusal::Refusal;
 use casm_statements::{Operand, Reserved, Stmt, Term};
 use casm_tokens::{Lexeme, Symbol};
 
 /// An assertion after its first bracket.
 #[tactic(auto, unfolding(crate::specs::Readers::assert_in))]
-fn assertion<'a>(tokens: &'a [Lexeme<'a>]) -> Result<Phrase<'a>, Stop>
+fn assertion<'a>(tokens: &'a [Lexeme<'a>]) -> Result<Phrase<'a>, Refusal>
     ensures { seen_all body_of result ≡ assert_in (seen tokens.now) }
 {
     let (dst, rest) = rest_of_cell(tokens)?;
@@ -25,7 +25,7 @@ fn assertion<'a>(tokens: &'a [Lexeme<'a>]) -> Result<Phrase<'a>, Stop>
 
 /// A jump after its operand.
 #[tactic(auto, unfolding(crate::specs::Readers::jump_on))]
-fn jump_on<'a>(abs: bool, res: Operand, tokens: &'a [Lexeme<'a>]) -> Result<Phrase<'a>, Stop>
+fn jump_on<'a>(abs: bool, res: Operand, tokens: &'a [Lexeme<'a>]) -> Result<Phrase<'a>, Refusal>
     ensures { seen_all body_of result ≡ jump_on abs res (seen tokens.now) }
 {
     let inc = inc(tokens)?;
@@ -34,7 +34,7 @@ fn jump_on<'a>(abs: bool, res: Operand, tokens: &'a [Lexeme<'a>]) -> Result<Phra
 
 /// A branch after `if`.
 #[tactic(auto, unfolding(crate::specs::Readers::branch_on))]
-fn branch_on<'a>(to: Term, tokens: &'a [Lexeme<'a>]) -> Result<Phrase<'a>, Stop>
+fn branch_on<'a>(to: Term, tokens: &'a [Lexeme<'a>]) -> Result<Phrase<'a>, Refusal>
     ensures { seen_all body_of result ≡ branch_on to (seen tokens.now) }
 {
     let (cond, rest) = condition(tokens)?;
@@ -60,7 +60,7 @@ fn jump_rel_by<'a>(
     to: Option<Term>,
     res: Operand,
     tokens: &'a [Lexeme<'a>],
-) -> Result<Phrase<'a>, Stop>
+) -> Result<Phrase<'a>, Refusal>
     ensures { seen_all body_of result ≡ jump_rel_by to res (seen tokens.now) }
 {
     let Some(to) = to else {
@@ -74,7 +74,7 @@ fn jump_rel_by<'a>(
 
 /// A jump or a branch after `rel`.
 #[tactic(auto, unfolding(crate::specs::Readers::jump_rel_in))]
-fn jump_rel<'a>(tokens: &'a [Lexeme<'a>]) -> Result<Phrase<'a>, Stop>
+fn jump_rel<'a>(tokens: &'a [Lexeme<'a>]) -> Result<Phrase<'a>, Refusal>
     ensures { seen_all body_of result ≡ jump_rel_in (seen tokens.now) }
 {
     let (res, rest) = operand(tokens)?;
@@ -83,7 +83,7 @@ fn jump_rel<'a>(tokens: &'a [Lexeme<'a>]) -> Result<Phrase<'a>, Stop>
 
 /// A jump after `abs`.
 #[tactic(auto, unfolding(crate::specs::Readers::jump_abs_in))]
-fn jump_abs<'a>(tokens: &'a [Lexeme<'a>]) -> Result<Phrase<'a>, Stop>
+fn jump_abs<'a>(tokens: &'a [Lexeme<'a>]) -> Result<Phrase<'a>, Refusal>
     ensures { seen_all body_of result ≡ jump_abs_in (seen tokens.now) }
 {
     let (res, rest) = operand(tokens)?;
@@ -92,7 +92,7 @@ fn jump_abs<'a>(tokens: &'a [Lexeme<'a>]) -> Result<Phrase<'a>, Stop>
 
 /// A jump or a branch to a label.
 #[tactic(auto, unfolding(crate::specs::Readers::jump_to_in))]
-fn jump_to<'a>(tokens: &'a [Lexeme<'a>]) -> Result<Phrase<'a>, Stop>
+fn jump_to<'a>(tokens: &'a [Lexeme<'a>]) -> Result<Phrase<'a>, Refusal>
     ensures { seen_all body_of result ≡ jump_to_in (seen tokens.now) }
 {
     let (name, rest) = label(tokens)?;
@@ -111,7 +111,7 @@ fn jump_to<'a>(tokens: &'a [Lexeme<'a>]) -> Result<Phrase<'a>, Stop>
 
 /// What follows `jmp`.
 #[tactic(auto, unfolding(crate::specs::Readers::jump_in))]
-fn jump<'a>(tokens: &'a [Lexeme<'a>]) -> Result<Phrase<'a>, Stop>
+fn jump<'a>(tokens: &'a [Lexeme<'a>]) -> Result<Phrase<'a>, Refusal>
     ensures { seen_all body_of result ≡ jump_in (seen tokens.now) }
 {
     if let Some(rest) = after_word(tokens, Reserved::Rel) {
@@ -125,7 +125,7 @@ fn jump<'a>(tokens: &'a [Lexeme<'a>]) -> Result<Phrase<'a>, Stop>
 
 /// A call after `rel` or `abs`.
 #[tactic(auto, unfolding(crate::specs::Readers::call_on))]
-fn call_on<'a>(abs: bool, tokens: &'a [Lexeme<'a>]) -> Result<Phrase<'a>, Stop>
+fn call_on<'a>(abs: bool, tokens: &'a [Lexeme<'a>]) -> Result<Phrase<'a>, Refusal>
     ensures { seen_all body_of result ≡ call_on abs (seen tokens.now) }
 {
     let (to, rest) = term(tokens)?;
@@ -135,7 +135,7 @@ fn call_on<'a>(abs: bool, tokens: &'a [Lexeme<'a>]) -> Result<Phrase<'a>, Stop>
 
 /// What follows `call`.
 #[tactic(auto, unfolding(crate::specs::Readers::call_in))]
-fn call<'a>(tokens: &'a [Lexeme<'a>]) -> Result<Phrase<'a>, Stop>
+fn call<'a>(tokens: &'a [Lexeme<'a>]) -> Result<Phrase<'a>, Refusal>
     ensures { seen_all body_of result ≡ call_in (seen tokens.now) }
 {
     if let Some(rest) = after_word(tokens, Reserved::Rel) {
@@ -151,7 +151,7 @@ fn call<'a>(tokens: &'a [Lexeme<'a>]) -> Result<Phrase<'a>, Stop>
 
 /// What follows `ap`.
 #[tactic(auto, unfolding(crate::specs::Readers::add_ap_in))]
-fn add_ap<'a>(tokens: &'a [Lexeme<'a>]) -> Result<Phrase<'a>, Stop>
+fn add_ap<'a>(tokens: &'a [Lexeme<'a>]) -> Result<Phrase<'a>, Refusal>
     ensures { seen_all body_of result ≡ add_ap_in (seen tokens.now) }
 {
     let rest = expect_sign(tokens, Symbol::AddTo)?;
@@ -162,7 +162,7 @@ fn add_ap<'a>(tokens: &'a [Lexeme<'a>]) -> Result<Phrase<'a>, Stop>
 
 /// What follows `dw`.
 #[tactic(auto, unfolding(crate::specs::Readers::dw_in))]
-fn word_data<'a>(tokens: &'a [Lexeme<'a>]) -> Result<Phrase<'a>, Stop>
+fn word_data<'a>(tokens: &'a [Lexeme<'a>]) -> Result<Phrase<'a>, Refusal>
     ensures { seen_all body_of result ≡ dw_in (seen tokens.now) }
 {
     let (value, rest) = immediate(tokens)?;
@@ -172,7 +172,7 @@ fn word_data<'a>(tokens: &'a [Lexeme<'a>]) -> Result<Phrase<'a>, Stop>
 
 /// A statement or a `dw`.
 #[tactic(auto, unfolding(crate::specs::Readers::stmt_in))]
-pub(crate) fn statement<'a>(tokens: &'a [Lexeme<'a>]) -> Result<Phrase<'a>, Stop>
+pub(crate) fn statement<'a>(tokens: &'a [Lexeme<'a>]) -> Result<Phrase<'a>, Refusal>
     ensures { seen_all body_of result ≡ stmt_in (seen tokens.now) }
 {
     if let Some(rest) = after_sign(tokens, Symbol::Open) {

@@ -55,7 +55,7 @@ with_op0 w c = record w { off_op0 = c.off; flags = record w.flags { op0_fp = is_
 abbrev pub with_op1 : Word → Cell → Word
 with_op1 w c = record w { off_op1 = c.off; flags = record w.flags { op1_fp = is_fp c.reg; op1_ap = not (is_fp c.reg) } }
 
--- The word with the number behind it as op1. Own.
+-- The word with the number after it as op1. Own.
 abbrev pub with_immediate : Word → Word
 with_immediate w = record w { off_op1 = pos 1; flags = record w.flags { op1_imm = true } }
 

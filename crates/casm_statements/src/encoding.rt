@@ -174,7 +174,7 @@ fn with_op1(word: Word, cell: Cell) -> Word
     }
 }
 
-/// The word with the number behind it as op1.
+/// The word with the number after it as op1.
 fn with_immediate(word: Word) -> Word
     ensures { result ≡ with_immediate word }
 {

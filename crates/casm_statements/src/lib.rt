@@ -36,7 +36,7 @@ pub struct Cell {
 pub enum Term {
     /// What the cell holds.
     Cell(Cell),
-    /// The number, which stands behind the instruction.
+    /// The number, which stands after the instruction.
     Imm(Felt),
 }
 
@@ -158,6 +158,3 @@ pub struct Item {
     /// What it says.
     pub body: Body,
 }
-
-#[cfg(test)]
-mod tests;

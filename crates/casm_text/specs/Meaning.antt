@@ -38,7 +38,7 @@ pub record MeansBodies (text : List ℕ) (meant : List Body) : Type 0 where
   pub reads : Reads text items
   pub same : bodies items ≡ meant
 
--- The column of a token of a line, by how many stand before it, or the one behind the last token. The first number is
+-- The column of a token of a line, by how many stand before it, or the one after the last token. The first number is
 -- where the token before these ends. Own.
 abbrev pub column_at : ℕ → List Placed → ℕ → ℕ
 column_at end [] n = end + 1

@@ -31,7 +31,7 @@ first_stop n [] = None
 first_stop n (bytes ∷ others) = stop_or n (scan bytes).stop (first_stop (n + 1) others)
 
 -- A reading of the line with this number and these tokens, as items on it. Where it is refused, the fault stands at the
--- first of the tokens that are left, or behind the last token where none is left. Own.
+-- first of the tokens that are left, or after the last token where none is left. Own.
 abbrev pub on_line : ℕ → List Placed → Result (List Body) Refusal → Result (List Item) Fault
 on_line n tokens (Ok v) = Ok (map (item_on n) v)
 on_line n tokens (Err stop) = Err (record { line = n; column = column_at 0 tokens (length tokens - stop.0); kind = stop.1 })

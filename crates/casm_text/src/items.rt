@@ -5,7 +5,7 @@ ghost use Rattle.std.specs.Prelude.{◌≡◌, ◌++◌, map, IfOk};
 ghost use Rattle.casm_grammar.specs.Seen.{target_of, body_of, bodies_of};
 ghost use Rattle.casm_text.specs.Meaning.{item_on};
 
-use casm_grammar::{Line, Phrase, Place};
+use casm_grammar::{Line, Phrase, TargetRef};
 use casm_statements::{Body, Item, Name, Target};
 use std::alloc::{AllocError, Global};
 
@@ -64,12 +64,12 @@ fn body(alloc: Global, phrase: Phrase<'_>) -> Result<Body, AllocError>
 }
 
 /// The place that a directive gives, with a name of its own.
-fn target(alloc: Global, place: Place<'_>) -> Result<Target, AllocError>
+fn target(alloc: Global, place: TargetRef<'_>) -> Result<Target, AllocError>
     ensures { IfOk result (λ target. target ≡ target_of place.entry) }
 {
     match place {
-        Place::Number(number) => Ok(Target::Number(number)),
-        Place::Name(label) => {
+        TargetRef::Number(number) => Ok(Target::Number(number)),
+        TargetRef::Name(label) => {
             let name = Name::of_label(alloc, label)?;
             Ok(Target::Name(name))
         }

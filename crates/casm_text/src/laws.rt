@@ -2,14 +2,14 @@
 ghost use Rattle.std.specs.Prelude.{◌≡◌, ◌≤◌, ◌↔◌, ◌⊎◌, ℕ, List, length, IfOk, IfSome, IsSome};
 ghost use Rattle.casm_statements.specs.declared.Body.{Body};
 ghost use Rattle.casm_tokens.specs.Lines.{Fault};
-ghost use Rattle.casm_tokens.specs.Limits.{most_bytes};
+ghost use Rattle.casm_tokens.specs.Limits.{text_limit};
 ghost use Rattle.casm_text.specs.Canonical.{printed};
 ghost use Rattle.casm_text.specs.Meaning.{bodies, MeansBodies, IsTextFault};
 
 use crate::parser::parse;
 use crate::printer::print;
 use casm_statements::Item;
-use casm_tokens::{MOST_BYTES, ParseFault};
+use casm_tokens::{ParseFault, TEXT_LIMIT};
 use std::alloc::{AllocError, Global};
 
 /// Each text means something or has a fault, never both, and it has one meaning or one fault.
@@ -25,11 +25,11 @@ pub fn text_laws()
 /// Its contract is the law that `parse(print(items))` has the same bodies. It gives what the one answers of what the
 /// other writes, and that `parse` refuses it is proved never to come.
 pub fn read_back(alloc: Global, items: &[Item]) -> Result<Option<Vec<Item>>, AllocError>
-    ensures some { IfOk result (λ found. IsSome found ↔ (length (printed items.now) ≤ most_bytes)) }
+    ensures some { IfOk result (λ found. IsSome found ↔ (length (printed items.now) ≤ text_limit)) }
     ensures same { IfOk result (λ found. IfSome found (λ again. bodies again.items ≡ bodies items.now)) }
 {
     let text = print(alloc, items)?;
-    if text.len() > MOST_BYTES {
+    if text.len() > TEXT_LIMIT {
         return Ok(None);
     }
     match parse(alloc, &text) {

@@ -15,6 +15,3 @@ pub use laws::{read_back, text_laws};
 pub use parser::parse;
 pub use printer::print;
 pub use reading::reading_laws;
-
-#[cfg(test)]
-mod tests;

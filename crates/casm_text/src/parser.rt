@@ -4,7 +4,7 @@
 ghost use Rattle.std.specs.Prelude.{◌≡◌, ◌≤◌, List, map, length, IfOk, IfErr};
 ghost use Rattle.casm_statements.specs.declared.Body.{Body};
 ghost use Rattle.casm_tokens.specs.Marks.{placed_of};
-ghost use Rattle.casm_tokens.specs.Limits.{most_bytes};
+ghost use Rattle.casm_tokens.specs.Limits.{text_limit};
 ghost use Rattle.casm_text.specs.Meaning.{Reads, MeansBodies, bodies, column_at, TellsText, Excludes};
 ghost use Rattle.casm_text.specs.Views.{AddsLine, GoesOn};
 
@@ -30,10 +30,10 @@ struct Wrong {
 /// The text has at most 2^24 bytes. It is refused first at the least place where no token stands, as by
 /// [`tokens`](casm_tokens::tokens). Where there is none, it is refused in its first line that is none of the grammar.
 /// The place is the first token with which that line begins none ([`SyntaxKind::Token`]), or that is a number out of
-/// its bounds ([`SyntaxKind::Range`]). Where more is missing, it is behind the line's last token
+/// its bounds ([`SyntaxKind::Range`]). Where more is missing, it is after the line's last token
 /// ([`SyntaxKind::Token`]).
 pub fn parse(alloc: Global, text: &[u8]) -> Result<Vec<Item>, ParseFault>
-    requires { length text.now ≤ most_bytes }
+    requires { length text.now ≤ text_limit }
     ensures reads { IfOk result (λ items. Reads text.now items.items) }
     ensures only { IfOk result (λ items. (meant : List Body) → MeansBodies text.now meant → meant ≡ bodies items.items) }
     ensures fault { IfErr result (λ fault. TellsText fault text.now) }
@@ -113,7 +113,7 @@ fn add_line(
     }
 }
 
-/// The column of a token, or the one behind the last token.
+/// The column of a token, or the one after the last token.
 fn column_at(lexemes: &[Lexeme<'_>], at: usize) -> u32
     requires { at ≤ length lexemes.now }
     ensures { result ≡ column_at 0 (map placed_of lexemes.now) at }

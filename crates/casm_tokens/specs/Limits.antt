@@ -2,5 +2,5 @@
 use Rattle.std.specs.Prelude.{ℕ}
 
 -- The most bytes of a text. Own.
-abbrev pub most_bytes : ℕ
-most_bytes = 16777216
+abbrev pub text_limit : ℕ
+text_limit = 16777216

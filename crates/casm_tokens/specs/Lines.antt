@@ -74,8 +74,8 @@ abbrev pub TellsStop : ParseFault → List ℕ → Type 0
 TellsStop Memory text = Unit {0}
 TellsStop (Syntax line column kind) text = HasStop text (record { line = line; column = column; kind = kind })
 
--- The tokens stand one after another, and each has at least one byte. The first begins at the first number or behind
--- it. Each next one begins where the one before ends, or behind that. The last ends at the second number at most. Own.
+-- The tokens stand one after another, and each has at least one byte. The first begins at the first number or after
+-- it. Each next one begins where the one before ends, or after that. The last ends at the second number at most. Own.
 abbrev pub AreInOrder : ℕ → ℕ → List Token → Type 0
 AreInOrder from most [] = from ≤ most
 AreInOrder from most (t ∷ ts) = (from ≤ t.start) × (t.start < t.end) × AreInOrder t.end most ts

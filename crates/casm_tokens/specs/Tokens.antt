@@ -43,7 +43,7 @@ is_numeral (b ∷ bs) = is_ascii_digit b && list_all is_word_byte bs
 abbrev pub HasShape : List ℕ → Type 0
 HasShape bytes = ((s : Symbol) × (bytes ≡ sign_text s)) ⊎ (IsTrue (is_word bytes) ⊎ IsTrue (is_numeral bytes))
 
--- Of the beginnings of the shape of a token that the line has from here on, these bytes are the longest; behind them
+-- Of the beginnings of the shape of a token that the line has from here on, these bytes are the longest; after them
 -- stands the rest. Own.
 pub record IsLongest (bytes rest : List ℕ) : Type 0 where
   pub shape : HasShape bytes

@@ -1,16 +1,16 @@
 //! The tokens of a text.
-#![tactic(auto, unfolding(crate::specs::Marks::mark_of, crate::specs::Marks::placed_of, crate::specs::Lines::kind_of, crate::specs::Lines::token_at))]
+#![tactic(auto, unfolding(crate::specs::Marks::placed_of, crate::specs::Lines::token_at))]
 
 ghost use Rattle.std.specs.Prelude.{◌≡◌, ◌≤◌, ◌+◌, ◌++◌, length, map, IfOk, IfErr};
 ghost use Rattle.casm_tokens.specs.Marks.{mark_of, placed_of};
 ghost use Rattle.std.specs.List.{AllByRecursion};
 ghost use Rattle.casm_tokens.specs.Lines.{kind_of, token_at, HasTokens, AreInOrder, IsSliceOf, TellsStop};
-ghost use Rattle.casm_tokens.specs.Limits.{most_bytes};
+ghost use Rattle.casm_tokens.specs.Limits.{text_limit};
 
 use crate::fault::{ParseFault, SyntaxKind};
 use crate::lines::split_line;
 use crate::marks::{Lexeme, Mark};
-use crate::scanner::{Stop, scan_line};
+use crate::scanner::{NoToken, scan_line};
 use crate::spans::{Token, TokenKind};
 use std::alloc::{AllocError, Global};
 
@@ -20,7 +20,7 @@ use std::alloc::{AllocError, Global};
 /// ([`SyntaxKind::Char`]). A number with a bad digit or none is such a place, too ([`SyntaxKind::Number`]), and so is
 /// one of p or more ([`SyntaxKind::Range`]).
 pub fn tokens(alloc: Global, text: &[u8]) -> Result<Vec<Token>, ParseFault>
-    requires { length text.now ≤ most_bytes }
+    requires { length text.now ≤ text_limit }
     ensures tokens { IfOk result (λ found. HasTokens text.now found.items) }
     ensures order { IfOk result (λ found. AreInOrder 0 (length text.now) found.items) }
     ensures slices { IfOk result (λ found. AllByRecursion (IsSliceOf text.now) found.items) }
@@ -47,8 +47,8 @@ pub fn tokens(alloc: Global, text: &[u8]) -> Result<Vec<Token>, ParseFault>
 }
 
 /// The refusal of a line at a place where no token stands. `stop.at` is at most 2^24.
-pub fn stop_fault(line: u32, stop: Stop) -> ParseFault
-    requires { stop.at ≤ most_bytes }
+pub fn stop_fault(line: u32, stop: NoToken) -> ParseFault
+    requires { stop.at ≤ text_limit }
     ensures { result ≡ ParseFault.Syntax line (stop.at + 1) stop.kind }
 {
     ParseFault::Syntax {
@@ -65,7 +65,7 @@ fn push_tokens(
     line: u32,
     start: u32,
 ) -> Result<(), AllocError>
-    requires { start ≤ most_bytes }
+    requires { start ≤ text_limit }
     ensures { IfOk result (λ _. found.new.items ≡ found.old.items ++ map (token_at line start) (map placed_of lexemes.now.items)) }
 {
     for lexeme in lexemes {
@@ -80,6 +80,7 @@ fn push_tokens(
 }
 
 /// The kind of a token.
+#[tactic(auto, unfolding(crate::specs::Marks::mark_of, crate::specs::Lines::kind_of))]
 fn kind_of(mark: Mark<'_>) -> TokenKind
     ensures { result ≡ kind_of (mark_of mark.entry) }
 {

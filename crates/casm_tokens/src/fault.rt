@@ -1,6 +1,7 @@
 //! Why a text is refused.
 
 use std::alloc::AllocError;
+use std::error::Error;
 use std::fmt;
 
 /// What is wrong at a place of a text.
@@ -74,3 +75,5 @@ impl fmt::Display for ParseFault {
         }
     }
 }
+
+impl Error for ParseFault {}

@@ -14,9 +14,9 @@ pub use cutter::{stop_fault, tokens};
 pub use fault::{ParseFault, SyntaxKind};
 pub use laws::token_laws;
 pub use lines::split_line;
-pub use marks::{Lexeme, MOST_BYTES, Mark, Symbol};
-pub use scanner::{Stop, scan_line};
+pub use marks::{Lexeme, Mark, Symbol};
+pub use scanner::{NoToken, scan_line};
 pub use spans::{Token, TokenKind};
 
-#[cfg(test)]
-mod tests;
+/// The most bytes that a text may have, 2^24.
+pub const TEXT_LIMIT: usize = 16777216;

@@ -1,6 +1,6 @@
 //! Tokens as the grammar sees them.
 ghost use Rattle.std.specs.Prelude.{◌≤◌};
-ghost use Rattle.casm_tokens.specs.Limits.{most_bytes};
+ghost use Rattle.casm_tokens.specs.Limits.{text_limit};
 
 use casm_statements::{Label, Reserved};
 use goldilocks::Felt;
@@ -49,9 +49,6 @@ pub enum Mark<'a> {
     Number(Felt),
 }
 
-/// The most bytes that a text may have, 2^24.
-pub const MOST_BYTES: usize = 16777216;
-
 /// A token of a line.
 #[derive(Clone, Copy, Debug)]
 pub struct Lexeme<'a> {
@@ -62,5 +59,5 @@ pub struct Lexeme<'a> {
     /// What it says.
     pub mark: Mark<'a>,
     pub ghost ordered: { start ≤ end },
-    pub ghost in_text: { end ≤ most_bytes },
+    pub ghost in_text: { end ≤ text_limit },
 }

@@ -3,7 +3,7 @@ ghost use Rattle.std.specs.Prelude.{◌≡◌, ◌<◌, ◌≤◌, length, IsTru
 ghost use Rattle.std.specs.List.{prefix_len, list_all};
 ghost use Rattle.casm_statements.specs.Label.{is_word, is_word_byte, reserved_word};
 ghost use Rattle.casm_tokens.specs.Tokens.{is_blank, begins_comment};
-ghost use Rattle.casm_tokens.specs.Pieces.{sign_at, sign_len, number_piece, word_mark, run_piece, piece_at, Cut};
+ghost use Rattle.casm_tokens.specs.Pieces.{sign_at, sign_len, sign_piece, number_piece, word_mark, run_piece, piece_at, Cut};
 ghost use Rattle.casm_tokens.specs.Views.{piece_of, IsWithin};
 
 use crate::fault::SyntaxKind;
@@ -34,7 +34,7 @@ pub(crate) enum Piece<'a> {
 }
 
 /// What the bytes begin with.
-#[tactic(auto, unfolding(crate::specs::Marks::mark_of, crate::specs::Pieces::sign_piece, crate::specs::Pieces::piece_at))]
+#[tactic(auto, unfolding(crate::specs::Pieces::piece_at))]
 pub(crate) fn piece_at<'a>(bytes: &'a [u8]) -> Piece<'a>
     ensures value { piece_of result ≡ piece_at bytes.now }
     ensures within { IsWithin result (length bytes.now) }
@@ -49,13 +49,22 @@ pub(crate) fn piece_at<'a>(bytes: &'a [u8]) -> Piece<'a>
     } else if is_word_byte(*first) {
         run_piece(&bytes[..run_len(bytes)])
     } else {
-        match sign_at(bytes) {
-            Some(sign) => Piece::Cut(Found {
-                len: sign_len(sign),
-                mark: Mark::Sign(sign),
-            }),
-            None => Piece::Bad(SyntaxKind::Char),
-        }
+        sign_piece(bytes)
+    }
+}
+
+/// The sign that the bytes begin with, or that they begin with no token.
+#[tactic(auto, unfolding(crate::specs::Marks::mark_of, crate::specs::Pieces::sign_piece))]
+fn sign_piece<'a>(bytes: &'a [u8]) -> Piece<'a>
+    ensures value { piece_of result ≡ sign_piece (sign_at bytes.now) }
+    ensures within { IsWithin result (length bytes.now) }
+{
+    match sign_at(bytes) {
+        Some(sign) => Piece::Cut(Found {
+            len: sign_len(sign),
+            mark: Mark::Sign(sign),
+        }),
+        None => Piece::Bad(SyntaxKind::Char),
     }
 }
 

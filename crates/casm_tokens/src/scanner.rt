@@ -4,7 +4,7 @@
 ghost use Rattle.std.specs.Prelude.{◌≡◌, ◌+◌, ◌≤◌, length, map, IfOk, IfSome, MatchOption};
 ghost use Rattle.casm_tokens.specs.Marks.{placed_of};
 ghost use Rattle.casm_tokens.specs.Tokens.{CutsInto, StopsAt};
-ghost use Rattle.casm_tokens.specs.Limits.{most_bytes};
+ghost use Rattle.casm_tokens.specs.Limits.{text_limit};
 
 use crate::fault::SyntaxKind;
 use crate::marks::Lexeme;
@@ -13,7 +13,7 @@ use std::alloc::AllocError;
 
 /// A place of a line where no token stands.
 #[derive(Clone, Copy, Debug, PartialEq, Eq)]
-pub struct Stop {
+pub struct NoToken {
     /// How many bytes of the line stand before it.
     pub at: u32,
     /// What is wrong there.
@@ -25,8 +25,8 @@ pub struct Stop {
 pub fn scan_line<'a>(
     line: &'a [u8],
     lexemes: &mut Vec<Lexeme<'a>>,
-) -> Result<Option<Stop>, AllocError>
-    requires { length line.now ≤ most_bytes }
+) -> Result<Option<NoToken>, AllocError>
+    requires { length line.now ≤ text_limit }
     ensures tokens { IfOk result (λ stop.
         MatchOption stop (CutsInto line.now (map placed_of lexemes.new.items)) (λ s. StopsAt line.now s.at s.kind)) }
     ensures within { IfOk result (λ stop. IfSome stop (λ s. s.at ≤ length line.now)) }
@@ -37,7 +37,7 @@ pub fn scan_line<'a>(
     'pieces: loop {
         match piece_at(rest) {
             Piece::Over => return Ok(None),
-            Piece::Bad(kind) => return Ok(Some(Stop { at, kind })),
+            Piece::Bad(kind) => return Ok(Some(NoToken { at, kind })),
             Piece::Gap => {
                 at += 1;
                 (_, rest) = rest.split_at(1);

@@ -2,5 +2,5 @@
 use Rattle.std.specs.Prelude.{ℕ, ◌^◌}
 
 -- The most words that a program has. Own.
-abbrev pub most_words : ℕ
-most_words = 2 ^ 18
+abbrev pub program_word_limit : ℕ
+program_word_limit = 2 ^ 18

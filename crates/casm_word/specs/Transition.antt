@@ -55,7 +55,7 @@ op1_address w r op0 = moved (op1_base w.flags r op0) w.off_op1
 abbrev pub res : Flags → ℕ → ℕ → ℕ
 res f op0 op1 = if f.res_add then field_add op0 op1 else (if f.res_mul then field_mul op0 op1 else op1)
 
--- The pc of the instruction that lies behind this one. The whitepaper's state transition function.
+-- The pc of the instruction that lies after this one. The whitepaper's state transition function.
 abbrev pub following_pc : Flags → Registers → ℕ
 following_pc f r = field_add r.pc (size f)
 

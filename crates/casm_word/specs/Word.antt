@@ -9,8 +9,8 @@ use Rattle.casm_word.specs.declared.WordFault.{WordFault}
 use Rattle.casm_word.specs.declared.WordFault.TheVariants.{HighBit, Undefined}
 
 -- Words are numbers below this one: they have 63 bits. The whitepaper's instruction structure.
-abbrev pub word_limit : ℕ
-word_limit = 2 ^ 63
+abbrev pub word_bound : ℕ
+word_bound = 2 ^ 63
 
 -- What is added to an offset in a word. The whitepaper's instruction structure.
 abbrev pub offset_bias : ℕ
@@ -64,7 +64,7 @@ breaks JnzOpcode f = f.pc_jnz && (f.op_call || f.op_ret || f.op_assert)
 breaks JnzAp f = f.pc_jnz && f.ap_add
 breaks CallAp f = f.op_call && (f.ap_add || f.ap_add1)
 
--- The shapes in the order in which they are told. Own.
+-- The shapes in the order in which they are reported. Own.
 abbrev pub shapes : List Shape
 shapes = Op1 ∷ Res ∷ Pc ∷ Opcode ∷ ApBoth ∷ JnzOpcode ∷ JnzAp ∷ CallAp ∷ []
 
@@ -79,7 +79,7 @@ unless_broken (Some s) w = Err (Undefined s)
 
 -- What a number is as an instruction: a word with defined flags, below the limit; or the first fault. Own.
 unfoldable pub decoding : ℕ → Result Word WordFault
-decoding n = if nat_lt n word_limit then unless_broken (first_broken (flags_of n)) (word_of n) else Err HighBit
+decoding n = if nat_lt n word_bound then unless_broken (first_broken (flags_of n)) (word_of n) else Err HighBit
 
 -- What sixteen bits hold of an offset: it with the bias added. The whitepaper's instruction structure.
 abbrev pub biased : ℤ → ℕ

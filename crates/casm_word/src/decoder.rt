@@ -2,7 +2,7 @@
 #![tactic(auto)]
 
 ghost use Rattle.std.specs.Prelude.{◌≡◌, ◌<◌, ◌≤◌, ◌↔◌, IsOk, IfOk};
-ghost use Rattle.casm_word.specs.Word.{bit, offset, flags_of, word_of, two_of, breaks, first_broken, decoding, word_limit, word_number};
+ghost use Rattle.casm_word.specs.Word.{bit, offset, flags_of, word_of, two_of, breaks, first_broken, decoding, word_bound, word_number};
 
 use crate::{Flags, OFFSET_BIAS, Shape, Word, WordFault};
 
@@ -25,10 +25,10 @@ const SHAPES: [Shape; 8] = [
 #[tactic(auto, unfolding(crate::specs::Word::decoding, crate::specs::Word::word_of))]
 pub fn decode(v: u64) -> Result<Word, WordFault>
     ensures value { result ≡ decoding v }
-    ensures high_bit { (result ≡ Err WordFault.HighBit) ↔ (word_limit ≤ v) }
+    ensures high_bit { (result ≡ Err WordFault.HighBit) ↔ (word_bound ≤ v) }
     ensures undefined { (s : Shape) → (result ≡ Err (WordFault.Undefined s))
-        ↔ ((v < word_limit) × (first_broken (flags_of v) ≡ Some s)) }
-    ensures defined { IsOk result ↔ ((v < word_limit) × (first_broken (flags_of v) ≡ None)) }
+        ↔ ((v < word_bound) × (first_broken (flags_of v) ≡ Some s)) }
+    ensures defined { IsOk result ↔ ((v < word_bound) × (first_broken (flags_of v) ≡ None)) }
     ensures word { IfOk result (λ w. w ≡ word_of v) }
     ensures encoded { IfOk result (λ w. word_number w ≡ v) }
 {

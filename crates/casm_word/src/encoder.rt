@@ -6,7 +6,7 @@ ghost use Rattle.casm_word.specs.Word.{biased, decoding, first_broken, flag_at, 
 
 use crate::{Flags, OFFSET_BIAS, Word};
 
-/// The number of the word `w`, for all flags: three offsets of sixteen bits with 2^15 added, and the flags behind them.
+/// The number of the word `w`, for all flags: three offsets of sixteen bits with 2^15 added, and the flags after them.
 ///
 /// Decoding it gives the word again where its flags are defined, and it is the number that the word was decoded from.
 #[tactic(auto, unfolding(crate::specs::Word::word_number))]

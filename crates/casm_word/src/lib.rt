@@ -4,6 +4,7 @@
 mod decoder;
 mod encoder;
 mod laws;
+mod refused;
 mod stepper;
 mod text;
 
@@ -11,10 +12,11 @@ pub use decoder::decode;
 pub use encoder::encode;
 use goldilocks::Felt;
 pub use laws::{legal_run_laws, outcome_laws, refused_step_laws};
+pub use refused::first_refused;
 pub use stepper::step;
 
 /// The most words that a program has, 2^18.
-pub const MOST_WORDS: usize = 0x4_0000;
+pub const PROGRAM_WORD_LIMIT: usize = 0x4_0000;
 
 /// What is added to an offset in a word, 2^15.
 const OFFSET_BIAS: i32 = 0x8000;
@@ -129,13 +131,10 @@ pub enum StepResult {
     NoCell(Felt),
     /// The cell at pc is no instruction.
     BadWord(WordFault),
-    /// A call whose op0 isn't the pc behind it.
+    /// A call whose op0 isn't the pc after it.
     CallPc,
     /// A call whose dst isn't fp.
     CallFp,
     /// An assertion whose dst isn't res.
     NotEqual,
 }
-
-#[cfg(test)]
-mod tests;

@@ -54,7 +54,7 @@ impl Flags {
         }
     }
 
-    /// The pc of the instruction that lies behind the one at `s.pc`.
+    /// The pc of the instruction that lies after the one at `s.pc`.
     fn following_pc(self, s: State) -> Felt
         ensures { result.number ≡ following_pc self (registers s) }
     {
@@ -139,22 +139,22 @@ impl Flags {
 }
 
 impl Word {
-    /// Where dst lies.
-    fn dst_address(self, s: State) -> Felt
+    /// Where dst lies, in the state `s`.
+    pub fn dst_address(self, s: State) -> Felt
         ensures { result.number ≡ dst_address self (registers s) }
     {
         moved_by(if self.flags.dst_fp { s.fp } else { s.ap }, self.off_dst)
     }
 
-    /// Where op0 lies.
-    fn op0_address(self, s: State) -> Felt
+    /// Where op0 lies, in the state `s`.
+    pub fn op0_address(self, s: State) -> Felt
         ensures { result.number ≡ op0_address self (registers s) }
     {
         moved_by(if self.flags.op0_fp { s.fp } else { s.ap }, self.off_op0)
     }
 
-    /// Where op1 lies, given op0.
-    fn op1_address(self, s: State, op0: Felt) -> Felt
+    /// Where op1 lies, in the state `s`, given op0.
+    pub fn op1_address(self, s: State, op0: Felt) -> Felt
         ensures { result.number ≡ op1_address self (registers s) op0.number }
     {
         let base = if self.flags.op1_imm {

@@ -6,6 +6,7 @@ ghost use Rattle.casm_word.specs.Transition.{outcome_of};
 ghost use Rattle.casm_word.specs.Text.{shape_text, word_fault_text, step_text};
 
 use crate::{Shape, StepResult, WordFault};
+use std::error::Error;
 use std::fmt;
 
 /// The name of the shape.
@@ -37,6 +38,8 @@ impl fmt::Display for WordFault {
         }
     }
 }
+
+impl Error for WordFault {}
 
 /// Why the step isn't the transition to the state that was to follow: another next state is a mismatch.
 impl fmt::Display for StepResult {

@@ -4,6 +4,7 @@ mod asm;
 mod check;
 mod dis;
 mod faults;
+mod forms;
 mod large;
 mod loop_of_twenty;
 mod one_return;

@@ -11,11 +11,11 @@ use Rattle.public_input.specs.Statement.{Statement}
 use Rattle.table_file.specs.Tables.{Contents}
 use Rattle.constraint_checker.specs.declared.Verdict.TheVariants.{Accepted}
 use Rattle.constraint_checker.specs.Lists.{accesses, range_values}
-use Rattle.constraint_checker.specs.Constraints.{MeetsAll}
+use Rattle.constraint_checker.specs.Constraints.{MeetsAll, rows_with_next, start_conditions, row_conditions, end_conditions, limb_conditions}
 use Rattle.constraint_checker.specs.Verdict.{verdict_on, verdict}
-use Rattle.constraint_checker.specs.Parts.{start_conditions, row_conditions, end_conditions, limb_conditions, run_conditions, memory_conditions, small_conditions}
+use Rattle.constraint_checker.specs.Parts.{run_conditions}
 use Rattle.constraint_checker.proofs.Verdicts.{first_refused, both_accepted, accepted-append}
-use Rattle.constraint_checker.proofs.Groups.{rows_accepted, limbs_accepted, of_list_fault, memory_by_fault, of_range_fault, small_by_fault, by_groups}
+use Rattle.constraint_checker.proofs.Groups.{rows_accepted, limbs_accepted, of_list_fault, memory_by_fault, of_range_fault, small_by_fault, on_memory, on_small_values, by_groups}
 use Rattle.constraint_checker.proofs.Edges.{start-met, start_accepted, end-met, end_accepted}
 
 no_list_fault : (o : Option ListFault) → of_list_fault o ≡ Accepted → o ≡ None
@@ -27,13 +27,13 @@ no_small_fault None e = refl
 no_small_fault (Some f) e = absurd (cc)
 
 module _ (program : Listing) (public : Statement) (tables : Contents) where
-  run_parts : (verdict_on (run_conditions program public tables) ≡ Accepted) ↔ ((verdict_on (start_conditions program public tables) ≡ Accepted) × (verdict_on (row_conditions tables) ≡ Accepted) × (verdict_on (end_conditions program public tables) ≡ Accepted) × (verdict_on (limb_conditions tables) ≡ Accepted))
+  run_parts : (verdict_on (run_conditions program public tables) ≡ Accepted) ↔ ((verdict_on (start_conditions program public tables) ≡ Accepted) × (verdict_on (row_conditions 0 (rows_with_next tables)) ≡ Accepted) × (verdict_on (end_conditions program public tables) ≡ Accepted) × (verdict_on (limb_conditions 0 tables.range) ≡ Accepted))
   unfolding run_conditions
   run_parts =
       let start = start_conditions program public tables in
-      let rows = row_conditions tables in
+      let rows = row_conditions 0 (rows_with_next tables) in
       let end = end_conditions program public tables in
-      let limbs = limb_conditions tables in (
+      let limbs = limb_conditions 0 tables.range in (
         λ e.
             let a = (accepted-append (start ++ rows ++ end) limbs).0 e in
             let b = (accepted-append (start ++ rows) end).0 a.0 in
@@ -46,27 +46,27 @@ module _ (program : Listing) (public : Statement) (tables : Contents) where
   pub rows_counted : verdict_on (run_conditions program public tables) ≡ Accepted → length tables.rows ≡ public.steps
   rows_counted e = (start_accepted program public tables (run_parts.0 e).0).0
 
-  memory_parts : (verdict_on (memory_conditions program public tables) ≡ Accepted) ↔ (M1 tables.pairs × M2 tables.pairs × M3 (accesses program public tables) tables.pairs)
+  memory_parts : (verdict_on (on_memory program public tables) ≡ Accepted) ↔ (M1 tables.pairs × M2 tables.pairs × M3 (accesses program public tables) tables.pairs)
   memory_parts =
       let fault = first_memory_fault (accesses program public tables) tables.pairs in
       let exactly = no_memory_fault (accesses program public tables) tables.pairs in (
-        λ e. exactly.0 (no_list_fault fault (sym (memory_by_fault program public tables) ∙ e)),
-        λ h. memory_by_fault program public tables ∙ ap of_list_fault (exactly.1 h),
+        λ e. exactly.0 (no_list_fault fault (sym (memory_by_fault (accesses program public tables) tables.pairs) ∙ e)),
+        λ h. memory_by_fault (accesses program public tables) tables.pairs ∙ ap of_list_fault (exactly.1 h),
       )
 
-  small_parts : (verdict_on (small_conditions public tables) ≡ Accepted) ↔ (Q1 tables.sorted_range public.rc_min × Q2 tables.sorted_range × Q3 tables.sorted_range public.rc_max × Q4 (range_values tables) tables.sorted_range)
+  small_parts : (verdict_on (on_small_values public tables) ≡ Accepted) ↔ (Q1 tables.sorted_range public.rc_min × Q2 tables.sorted_range × Q3 tables.sorted_range public.rc_max × Q4 (range_values tables) tables.sorted_range)
   small_parts =
       let fault = first_range_fault (range_values tables) tables.sorted_range public.rc_min public.rc_max in
       let exactly = no_range_fault (range_values tables) tables.sorted_range public.rc_min public.rc_max in (
-        λ e. exactly.0 (no_small_fault fault (sym (small_by_fault public tables) ∙ e)),
-        λ h. small_by_fault public tables ∙ ap of_range_fault (exactly.1 h),
+        λ e. exactly.0 (no_small_fault fault (sym (small_by_fault (range_values tables) tables.sorted_range public.rc_min public.rc_max) ∙ e)),
+        λ h. small_by_fault (range_values tables) tables.sorted_range public.rc_min public.rc_max ∙ ap of_range_fault (exactly.1 h),
       )
 
   all_met : verdict program public tables ≡ Accepted → MeetsAll program public tables
   all_met e =
       let run = verdict_on (run_conditions program public tables) in
-      let memory = verdict_on (memory_conditions program public tables) in
-      let small = verdict_on (small_conditions public tables) in
+      let memory = verdict_on (on_memory program public tables) in
+      let small = verdict_on (on_small_values public tables) in
       let whole = (both_accepted (first_refused run memory) small).0 (sym (by_groups program public tables) ∙ e) in
       let front = (both_accepted run memory).0 whole.0 in
       let parts = run_parts.0 front.0 in
@@ -83,7 +83,7 @@ module _ (program : Listing) (public : Statement) (tables : Contents) where
         rows = (rows_accepted tables).0 parts.1;
         p6 = end.0;
         p7 = end.1;
-        v1 = (limbs_accepted tables).0 parts.3;
+        v1 = (limbs_accepted tables.range).0 parts.3;
         m1 = m.0;
         m2 = m.1;
         m3 = m.2;
@@ -96,13 +96,13 @@ module _ (program : Listing) (public : Statement) (tables : Contents) where
   accepted_where_met : MeetsAll program public tables → verdict program public tables ≡ Accepted
   accepted_where_met h =
       let run = verdict_on (run_conditions program public tables) in
-      let memory = verdict_on (memory_conditions program public tables) in
-      let small = verdict_on (small_conditions public tables) in
+      let memory = verdict_on (on_memory program public tables) in
+      let small = verdict_on (on_small_values public tables) in
       let start : verdict_on (start_conditions program public tables) ≡ Accepted = sym (start-met program public tables h.p1 h.p2 h.p3 h.p4 h.p5) in
       let end : verdict_on (end_conditions program public tables) ≡ Accepted = sym (end-met program public tables h.p6 h.p7) in
       by_groups program public tables
       ∙ (both_accepted (first_refused run memory) small).1 (
-        (both_accepted run memory).1 (run_parts.1 (start, (rows_accepted tables).1 h.rows, end, (limbs_accepted tables).1 h.v1), memory_parts.1 (h.m1, h.m2, h.m3)),
+        (both_accepted run memory).1 (run_parts.1 (start, (rows_accepted tables).1 h.rows, end, (limbs_accepted tables.range).1 h.v1), memory_parts.1 (h.m1, h.m2, h.m3)),
         small_parts.1 (h.q1, h.q2, h.q3, h.q4),
       )
 

@@ -27,7 +27,10 @@ use Rattle.program_file.specs.Listing.{Listing}
 use Rattle.public_input.specs.Statement.{Statement}
 use Rattle.public_input.specs.Valid.{KeepsLimits}
 use Rattle.table_file.specs.Tables.{Contents, AreValid}
-use Rattle.constraint_checker.specs.Lists.{cell, cells_from, row_cells, range_cells, program_cells, accesses, row_offsets, limbs, range_values}
+use Rattle.access_lists.specs.Accesses.{row_cells, range_cells, program_cells, accesses as accesses_of}
+use Rattle.access_lists.specs.SmallValues.{row_offsets, limbs, small_values}
+use Rattle.constraint_checker.specs.Lists.{accesses, range_values}
+use Rattle.goldilocks.specs.Cells.{cell, cells_from}
 use Rattle.constraint_checker.specs.Constraints.{MeetsAll, states, first_state}
 use Rattle.constraint_checker.specs.Acceptance.{memory_in, DescribeRun}
 use Rattle.constraint_checker.specs.Parts.{RunsAnywhere}
@@ -78,12 +81,12 @@ module _ (program : Listing) (public : Statement) (tables : Contents) (few : len
       ((no_memory_fault (accesses program public tables) tables.pairs).1 (meets.m1, meets.m2, meets.m3))
       (omega (arith, valid.pair_count))).holds
 
-  access_parts : All Has (flat_map row_cells tables.rows) × All Has (range_cells public tables) × All Has (program_cells program) × All Has public.cells
-  unfolding Holds accesses
+  access_parts : All Has (flat_map row_cells tables.rows) × All Has (range_cells public.range_begin.number tables.range) × All Has (program_cells program.words) × All Has public.cells
+  unfolding Holds accesses_of
   access_parts =
       let rows = flat_map row_cells tables.rows in
-      let range = range_cells public tables in
-      let words = program_cells program in
+      let range = range_cells public.range_begin.number tables.range in
+      let words = program_cells program.words in
       let a = both_hold Has (rows ++ range ++ words ++ public.cells) tables.fillers all_accesses in
       let b = both_hold Has (rows ++ range ++ words) public.cells a.0 in
       let c = both_hold Has (rows ++ range) words b.0 in
@@ -129,7 +132,7 @@ module _ (program : Listing) (public : Statement) (tables : Contents) (few : len
       ((no_range_fault (range_values tables) tables.sorted_range public.rc_min public.rc_max).1 (meets.q1, meets.q2, meets.q3, meets.q4))
 
   small_parts : All (IsWithin public.rc_min public.rc_max) (flat_map row_offsets tables.rows) × All (IsWithin public.rc_min public.rc_max) (flat_map limbs tables.range)
-  unfolding range_values
+  unfolding small_values
   small_parts =
       let W = IsWithin public.rc_min public.rc_max in
       let a = both_hold W (flat_map row_offsets tables.rows ++ flat_map limbs tables.range) tables.range_fillers small in

@@ -6,9 +6,8 @@ use Rattle.public_input.specs.Statement.{Statement}
 use Rattle.table_file.specs.Tables.{Contents}
 use Rattle.constraint_checker.specs.declared.Constraint.TheVariants.{P}
 use Rattle.constraint_checker.specs.declared.Verdict.TheVariants.{Accepted, Refused}
-use Rattle.constraint_checker.specs.Constraints.{Condition, condition, first_state, last_state}
+use Rattle.constraint_checker.specs.Constraints.{Condition, condition, first_state, last_state, start_conditions, end_conditions}
 use Rattle.constraint_checker.specs.Verdict.{verdict_on}
-use Rattle.constraint_checker.specs.Parts.{start_conditions, end_conditions}
 use Rattle.constraint_checker.proofs.Verdicts.{accepted-cons}
 
 module _ (program : Listing) (public : Statement) (tables : Contents) where

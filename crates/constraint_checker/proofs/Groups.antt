@@ -28,9 +28,9 @@ use Rattle.constraint_checker.specs.declared.Constraint.TheVariants.{C, V, M, Q}
 use Rattle.constraint_checker.specs.declared.Verdict.{Verdict}
 use Rattle.constraint_checker.specs.declared.Verdict.TheVariants.{Accepted, Refused}
 use Rattle.constraint_checker.specs.Lists.{accesses, range_values}
-use Rattle.constraint_checker.specs.Constraints.{Condition, condition, are_one, conditions, rows_with_next}
+use Rattle.constraint_checker.specs.Constraints.{Condition, condition, are_one, at_each, neighbours, start_conditions, row_conditions, end_conditions, limb_conditions, memory_conditions, small_conditions, conditions, rows_with_next}
 use Rattle.constraint_checker.specs.Verdict.{verdict_on, verdict}
-use Rattle.constraint_checker.specs.Parts.{start_conditions, row_conditions, end_conditions, limb_conditions, pair_conditions, access_conditions, least_conditions, value_conditions, range_conditions, run_conditions, memory_conditions, small_conditions}
+use Rattle.constraint_checker.specs.Parts.{run_conditions}
 use Rattle.constraint_checker.proofs.Verdicts.{first_refused, verdict_on-append, fails_here, holds_here, stays, second_stays, first_stays}
 use Rattle.constraint_checker.proofs.EachItem.{none_refused, each_accepted, refused_at, of_number, of_number-accepted, of_equations, verdict_on-equations, of_place, verdict_on-neighbours}
 
@@ -51,7 +51,7 @@ mapped_at f (x ∷ xs) (suc j) y e =
     let later : (j < length xs) × ((d : _) → f (get_or xs j d) ≡ y) = mapped_at f xs j y e in
     (omega (arith, later.0), later.1)
 
-pub rows_refused : (tables : Contents) (i k : ℕ) → IsFirstFault (map columns tables.rows) (registers tables.last) i k → verdict_on (row_conditions tables) ≡ Refused (C k) i
+pub rows_refused : (tables : Contents) (i k : ℕ) → IsFirstFault (map columns tables.rows) (registers tables.last) i k → verdict_on (row_conditions 0 (rows_with_next tables)) ≡ Refused (C k) i
 unfolding row_conditions asked_of_row faults
 rows_refused tables i k first =
     let f : Columns × Registers → Option ℕ = λ p. fault p.0 p.1 in
@@ -61,7 +61,7 @@ rows_refused tables i k first =
     (λ j d below. by_fault (0 + j) (get_or rows j d) ∙ ap (of_number C (0 + j)) ((mapped_at f rows j None (first.before j below)).1 d))
     (λ d. by_fault (0 + i) (get_or rows i d) ∙ (ap (of_number C (0 + i)) (here.1 d) ∙ ap (Refused (C k)) (zero-add i)))
 
-pub rows_accepted : (tables : Contents) → (verdict_on (row_conditions tables) ≡ Accepted) ↔ All (λ p. Meets p.0 p.1) (rows_with_next tables)
+pub rows_accepted : (tables : Contents) → (verdict_on (row_conditions 0 (rows_with_next tables)) ≡ Accepted) ↔ All (λ p. Meets p.0 p.1) (rows_with_next tables)
 unfolding row_conditions asked_of_row
 rows_accepted tables =
     let rows : List (Columns × Registers) = rows_with_next tables in (
@@ -98,10 +98,9 @@ met_where_accepted k row e =
       | inr f ↦ absurd (let h : Refused (V 1) k ≡ Accepted = sym (limbs_fail k row f) ∙ e in cc)
     ]
 
-pub limbs_refused : (tables : Contents) (i : ℕ) → position (λ r. not (meets_v1 r)) tables.range ≡ Some i → verdict_on (limb_conditions tables) ≡ Refused (V 1) i
+pub limbs_refused : (rows : List RangeRow) (i : ℕ) → position (λ r. not (meets_v1 r)) rows ≡ Some i → verdict_on (limb_conditions 0 rows) ≡ Refused (V 1) i
 unfolding limb_conditions asked_of_limbs
-limbs_refused tables i e =
-    let rows : List RangeRow = tables.range in
+limbs_refused rows i e =
     let fails : RangeRow → Bool = λ r. not (meets_v1 r) in
     refused_at asked_of_limbs 0 i rows (Refused (V 1) i) (λ h. cc) (position_within fails rows i e)
     (λ j d below. limbs_hold (0 + j) (get_or rows j d) (not-false (meets_v1 (get_or rows j d)) ((position-Some fails rows i d e).2 j below)))
@@ -111,11 +110,11 @@ limbs_refused tables i e =
     position_within p [] i e = absurd (cc)
     position_within p (x ∷ xs) i e = (position-Some p (x ∷ xs) i x e).0
 
-pub limbs_accepted : (tables : Contents) → (verdict_on (limb_conditions tables) ≡ Accepted) ↔ All V1 tables.range
+pub limbs_accepted : (rows : List RangeRow) → (verdict_on (limb_conditions 0 rows) ≡ Accepted) ↔ All V1 rows
 unfolding limb_conditions asked_of_limbs
-limbs_accepted tables = (
-  λ e j d lt. met_where_accepted (0 + j) (get_or tables.range j d) (each_accepted asked_of_limbs 0 tables.range e j d lt),
-  λ all. none_refused asked_of_limbs 0 tables.range (λ j d lt. limbs_hold (0 + j) (get_or tables.range j d) (met_limbs (get_or tables.range j d) (all j d lt))),
+limbs_accepted rows = (
+  λ e j d lt. met_where_accepted (0 + j) (get_or rows j d) (each_accepted asked_of_limbs 0 rows e j d lt),
+  λ all. none_refused asked_of_limbs 0 rows (λ j d lt. limbs_hold (0 + j) (get_or rows j d) (met_limbs (get_or rows j d) (all j d lt))),
 )
 
 -- ---- two lists that are to be one
@@ -142,14 +141,13 @@ abbrev pub of_list_fault : Option ListFault → Verdict
 of_list_fault None = Accepted
 of_list_fault (Some f) = Refused (M f.number) f.row
 
-pub memory_by_fault : (program : Listing) (public : Statement) (tables : Contents) → verdict_on (memory_conditions program public tables) ≡ of_list_fault (first_memory_fault (accesses program public tables) tables.pairs)
-unfolding memory_conditions pair_conditions access_conditions asked_of_pairs first_memory_fault
-memory_by_fault program public tables =
-    let pairs : List Pair = tables.pairs in
-    let difference : Option ℕ = list_difference is_same_pair (in_order pair_cmp (accesses program public tables)) (in_order pair_cmp pairs) in
-    verdict_on-append (pair_conditions tables) (access_conditions program public tables)
-    ∙ (rw (verdict_on-neighbours M asked_of_pairs pair_fault pairs_by_fault pairs, asked_of_lists (M 3) difference)
-    (joined (first_between pair_fault pairs) difference))
+pub memory_by_fault : (accessed sorted : List Pair) → verdict_on (memory_conditions accessed sorted) ≡ of_list_fault (first_memory_fault accessed sorted)
+unfolding memory_conditions asked_of_pairs first_memory_fault
+memory_by_fault accessed sorted =
+    let difference : Option ℕ = list_difference is_same_pair (in_order pair_cmp accessed) (in_order pair_cmp sorted) in
+    verdict_on-append (at_each 0 (neighbours sorted) asked_of_pairs) (are_one (M 3) difference ∷ [])
+    ∙ (rw (verdict_on-neighbours M asked_of_pairs pair_fault pairs_by_fault sorted, asked_of_lists (M 3) difference)
+    (joined (first_between pair_fault sorted) difference))
   where
     joined : (a : Option (ℕ × ℕ)) (b : Option ℕ) → first_refused (of_place M 0 a) (of_number (λ _. M 3) (unwrap_or b 0) b) ≡ of_list_fault (option_or (option_map (λ p. list_fault_at p.1 p.0) a) (option_map (λ row. list_fault_at 3 row) b))
     joined None None = refl
@@ -173,17 +171,18 @@ abbrev pub of_range_fault : Option RangeFault → Verdict
 of_range_fault None = Accepted
 of_range_fault (Some f) = Refused (Q f.number) f.row
 
-pub small_by_fault : (public : Statement) (tables : Contents) → verdict_on (small_conditions public tables) ≡ of_range_fault (first_range_fault (range_values tables) tables.sorted_range public.rc_min public.rc_max)
-unfolding small_conditions least_conditions value_conditions range_conditions asked_of_values first_range_fault q1_fault q2_fault q3_fault q4_fault
-small_by_fault public tables =
-    let values : List Felt = tables.sorted_range in
-    let difference : Option ℕ = list_difference is_same_felt (in_order felt_cmp (range_values tables)) (in_order felt_cmp values) in
-    let least : Bool = is_number public.rc_min (first_number values) in
-    let greatest : Bool = is_number public.rc_max (last_number values) in
-    let front : verdict_on (least_conditions public tables ++ value_conditions tables) ≡ first_refused (verdict_on (least_conditions public tables)) (of_place Q 0 (first_between step_fault values)) =
-    verdict_on-append (least_conditions public tables) (value_conditions tables) ∙ ap (first_refused (verdict_on (least_conditions public tables))) (verdict_on-neighbours Q asked_of_values step_fault values_by_fault values) in
-    verdict_on-append (least_conditions public tables ++ value_conditions tables) (range_conditions public tables)
-    ∙ (rw front (joined least (first_between step_fault values) greatest (length values - 1) difference))
+pub small_by_fault : (values sorted : List Felt) (low high : ℕ) → verdict_on (small_conditions values sorted low high) ≡ of_range_fault (first_range_fault values sorted low high)
+unfolding small_conditions asked_of_values first_range_fault q1_fault q2_fault q3_fault q4_fault
+small_by_fault values sorted low high =
+    let difference : Option ℕ = list_difference is_same_felt (in_order felt_cmp values) (in_order felt_cmp sorted) in
+    let least : Bool = is_number low (first_number sorted) in
+    let greatest : Bool = is_number high (last_number sorted) in
+    let first : List Condition = condition (Q 1) 0 least ∷ [] in
+    let steps : List Condition = at_each 0 (neighbours sorted) asked_of_values in
+    let front : verdict_on (first ++ steps) ≡ first_refused (verdict_on first) (of_place Q 0 (first_between step_fault sorted)) =
+    verdict_on-append first steps ∙ ap (first_refused (verdict_on first)) (verdict_on-neighbours Q asked_of_values step_fault values_by_fault sorted) in
+    verdict_on-append (first ++ steps) (condition (Q 3) (length sorted - 1) greatest ∷ are_one (Q 4) difference ∷ [])
+    ∙ (rw front (joined least (first_between step_fault sorted) greatest (length sorted - 1) difference))
   where
     joined : (least : Bool) (steps : Option (ℕ × ℕ)) (greatest : Bool) (place : ℕ) (difference : Option ℕ) →
         first_refused (first_refused (verdict_on (condition (Q 1) 0 least ∷ [])) (of_place Q 0 steps)) (verdict_on (condition (Q 3) place greatest ∷ are_one (Q 4) difference ∷ []))
@@ -196,64 +195,52 @@ small_by_fault public tables =
 
 -- ---- all of them
 
-regrouped : (r e m q f g : Verdict) → first_refused (first_refused (first_refused (first_refused r e) (first_refused m q)) f) g ≡ first_refused (first_refused r (first_refused e m)) (first_refused (first_refused q f) g)
-regrouped (Refused c i) e m q f g = refl
-regrouped Accepted (Refused c i) m q f g = refl
-regrouped Accepted Accepted (Refused c i) q f g = refl
-regrouped Accepted Accepted Accepted q f g = refl
+-- the conditions of the memory, and those of the small values
+abbrev pub on_memory : Listing → Statement → Contents → List Condition
+on_memory program public tables = memory_conditions (accesses program public tables) tables.pairs
 
-split : (program : Listing) (public : Statement) (tables : Contents) → conditions program public tables
-    ≡ (((run_conditions program public tables ++ pair_conditions tables) ++ (access_conditions program public tables ++ least_conditions public tables)) ++ value_conditions tables) ++ range_conditions public tables
-unfolding conditions run_conditions start_conditions row_conditions end_conditions limb_conditions pair_conditions access_conditions least_conditions value_conditions range_conditions
-split program public tables = refl
+abbrev pub on_small_values : Statement → Contents → List Condition
+on_small_values public tables = small_conditions (range_values tables) tables.sorted_range public.rc_min public.rc_max
 
 pub by_groups : (program : Listing) (public : Statement) (tables : Contents) → verdict program public tables
-    ≡ first_refused (first_refused (verdict_on (run_conditions program public tables)) (verdict_on (memory_conditions program public tables))) (verdict_on (small_conditions public tables))
-unfolding verdict memory_conditions small_conditions
+    ≡ first_refused (first_refused (verdict_on (run_conditions program public tables)) (verdict_on (on_memory program public tables))) (verdict_on (on_small_values public tables))
+unfolding verdict conditions run_conditions
 by_groups program public tables =
     let run : List Condition = run_conditions program public tables in
-    let pairs : List Condition = pair_conditions tables in
-    let access : List Condition = access_conditions program public tables in
-    let least : List Condition = least_conditions public tables in
-    let values : List Condition = value_conditions tables in
-    let range : List Condition = range_conditions public tables in
-    ap verdict_on (split program public tables)
-    ∙ (verdict_on-append (((run ++ pairs) ++ (access ++ least)) ++ values) range
-    ∙ (rw (verdict_on-append ((run ++ pairs) ++ (access ++ least)) values)
-    (rw (verdict_on-append (run ++ pairs) (access ++ least))
-    (rw (verdict_on-append run pairs, verdict_on-append access least, verdict_on-append pairs access, verdict_on-append (least ++ values) range, verdict_on-append least values)
-    (regrouped (verdict_on run) (verdict_on pairs) (verdict_on access) (verdict_on least) (verdict_on values) (verdict_on range))))))
+    let memory : List Condition = on_memory program public tables in
+    let small : List Condition = on_small_values public tables in
+    verdict_on-append (run ++ memory) small ∙ ap (λ v. first_refused v (verdict_on small)) (verdict_on-append run memory)
 
 -- the verdict on the conditions of the run, by the first part that refuses
 module _ (program : Listing) (public : Statement) (tables : Contents) where
   run_verdict : verdict_on (run_conditions program public tables)
-      ≡ first_refused (first_refused (first_refused (verdict_on (start_conditions program public tables)) (verdict_on (row_conditions tables))) (verdict_on (end_conditions program public tables))) (verdict_on (limb_conditions tables))
+      ≡ first_refused (first_refused (first_refused (verdict_on (start_conditions program public tables)) (verdict_on (row_conditions 0 (rows_with_next tables)))) (verdict_on (end_conditions program public tables))) (verdict_on (limb_conditions 0 tables.range))
   unfolding run_conditions
   run_verdict =
       let start : List Condition = start_conditions program public tables in
-      let rows : List Condition = row_conditions tables in
+      let rows : List Condition = row_conditions 0 (rows_with_next tables) in
       let end : List Condition = end_conditions program public tables in
-      let limbs : List Condition = limb_conditions tables in
+      let limbs : List Condition = limb_conditions 0 tables.range in
       verdict_on-append (start ++ rows ++ end) limbs ∙ (rw (verdict_on-append (start ++ rows) end, verdict_on-append start rows) refl)
 
   pub run-at_start : (verdict_on (start_conditions program public tables) ≡ Accepted → ⊥) → verdict_on (run_conditions program public tables) ≡ verdict_on (start_conditions program public tables)
   run-at_start h = run_verdict ∙ first_stays (verdict_on (start_conditions program public tables)) _ _ _ h
 
-  pub run-at_rows : verdict_on (start_conditions program public tables) ≡ Accepted → (verdict_on (row_conditions tables) ≡ Accepted → ⊥) → verdict_on (run_conditions program public tables) ≡ verdict_on (row_conditions tables)
-  run-at_rows a h = run_verdict ∙ (rw a (second_stays (verdict_on (row_conditions tables)) _ _ h))
+  pub run-at_rows : verdict_on (start_conditions program public tables) ≡ Accepted → (verdict_on (row_conditions 0 (rows_with_next tables)) ≡ Accepted → ⊥) → verdict_on (run_conditions program public tables) ≡ verdict_on (row_conditions 0 (rows_with_next tables))
+  run-at_rows a h = run_verdict ∙ (rw a (second_stays (verdict_on (row_conditions 0 (rows_with_next tables))) _ _ h))
 
-  pub run-at_end : verdict_on (start_conditions program public tables) ≡ Accepted → verdict_on (row_conditions tables) ≡ Accepted → (verdict_on (end_conditions program public tables) ≡ Accepted → ⊥) → verdict_on (run_conditions program public tables) ≡ verdict_on (end_conditions program public tables)
+  pub run-at_end : verdict_on (start_conditions program public tables) ≡ Accepted → verdict_on (row_conditions 0 (rows_with_next tables)) ≡ Accepted → (verdict_on (end_conditions program public tables) ≡ Accepted → ⊥) → verdict_on (run_conditions program public tables) ≡ verdict_on (end_conditions program public tables)
   run-at_end a b h = run_verdict ∙ (rw (a, b) (stays (verdict_on (end_conditions program public tables)) _ h))
 
-  pub run-at_limbs : verdict_on (start_conditions program public tables) ≡ Accepted → verdict_on (row_conditions tables) ≡ Accepted → verdict_on (end_conditions program public tables) ≡ Accepted → verdict_on (run_conditions program public tables) ≡ verdict_on (limb_conditions tables)
+  pub run-at_limbs : verdict_on (start_conditions program public tables) ≡ Accepted → verdict_on (row_conditions 0 (rows_with_next tables)) ≡ Accepted → verdict_on (end_conditions program public tables) ≡ Accepted → verdict_on (run_conditions program public tables) ≡ verdict_on (limb_conditions 0 tables.range)
   run-at_limbs a b d = run_verdict ∙ (rw (a, b, d) refl)
 
   -- the verdict, by the first group that refuses
   pub at_run : (verdict_on (run_conditions program public tables) ≡ Accepted → ⊥) → verdict program public tables ≡ verdict_on (run_conditions program public tables)
   at_run h = by_groups program public tables ∙ second_stays (verdict_on (run_conditions program public tables)) _ _ h
 
-  pub at_memory : verdict_on (run_conditions program public tables) ≡ Accepted → (verdict_on (memory_conditions program public tables) ≡ Accepted → ⊥) → verdict program public tables ≡ verdict_on (memory_conditions program public tables)
-  at_memory a h = by_groups program public tables ∙ (rw a (stays (verdict_on (memory_conditions program public tables)) _ h))
+  pub at_memory : verdict_on (run_conditions program public tables) ≡ Accepted → (verdict_on (on_memory program public tables) ≡ Accepted → ⊥) → verdict program public tables ≡ verdict_on (on_memory program public tables)
+  at_memory a h = by_groups program public tables ∙ (rw a (stays (verdict_on (on_memory program public tables)) _ h))
 
-  pub at_small_values : verdict_on (run_conditions program public tables) ≡ Accepted → verdict_on (memory_conditions program public tables) ≡ Accepted → verdict program public tables ≡ verdict_on (small_conditions public tables)
+  pub at_small_values : verdict_on (run_conditions program public tables) ≡ Accepted → verdict_on (on_memory program public tables) ≡ Accepted → verdict program public tables ≡ verdict_on (on_small_values public tables)
   at_small_values a b = by_groups program public tables ∙ (rw (a, b) refl)

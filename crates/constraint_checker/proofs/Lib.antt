@@ -3,6 +3,5 @@ pub mod EachItem
 pub mod Groups
 pub mod Edges
 pub mod Acceptances
-pub mod CellLists
 pub mod RowSteps
 pub mod Descriptions

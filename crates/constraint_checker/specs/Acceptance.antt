@@ -6,7 +6,8 @@ use Rattle.casm_word.specs.Transition.{Memory}
 use Rattle.casm_word.specs.Run.{LegalRun}
 use Rattle.cpu_rows.specs.Columns.{columns}
 use Rattle.cpu_rows.specs.Steps.{HasSmallOffsets}
-use Rattle.memory_columns.specs.OneMemory.{memory_of_pairs, Holds}
+use Rattle.memory_columns.specs.OneMemory.{Holds}
+use Rattle.goldilocks.specs.Cells.{memory_of}
 use Rattle.range_columns.specs.declared.RangeRow.{RangeRow}
 use Rattle.range_columns.specs.Equations.{IsWithin}
 use Rattle.program_file.specs.Listing.{Listing}
@@ -19,7 +20,7 @@ use Rattle.constraint_checker.specs.Constraints.{states, last_state}
 -- The memory of the tables: at each address the value at its first place in the sorted pairs. The whitepaper proves of
 -- its nondeterministic continuous read-only memory that there is one; here it is read off.
 abbrev pub memory_in : Contents → Memory
-memory_in tables = memory_of_pairs tables.pairs
+memory_in tables = memory_of tables.pairs
 
 -- The tables describe a run of the program, with this public input. The whitepaper's statement of what a proof of a run
 -- shows.

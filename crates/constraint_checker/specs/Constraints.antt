@@ -2,6 +2,8 @@
 -- 2021/1063.
 use Rattle.std.specs.Prelude.{ℕ, ◌≡◌, ◌+◌, ◌-◌, Bool, ◌==◌, List, [], ◌∷◌, ◌++◌, map, length, drop, Option, is_none, unwrap_or, slice_index_or, All}
 use Rattle.std.specs.List.{flat_map, enumerate_from, zip}
+use Rattle.goldilocks.specs.declared.Felt.{Felt}
+use Rattle.goldilocks.specs.declared.Pair.{Pair}
 use Rattle.casm_word.specs.Transition.{Registers, registers}
 use Rattle.program_file.specs.Listing.{Listing}
 use Rattle.public_input.specs.Statement.{Statement}
@@ -10,6 +12,7 @@ use Rattle.cpu_rows.specs.Equations.{equations, holds, Meets}
 use Rattle.cpu_rows.specs.Table.{states_of, with_next}
 use Rattle.sorted_lists.specs.Climbing.{climb}
 use Rattle.memory_columns.specs.Equations.{m1, m2, pair_difference, M1, M2, M3}
+use Rattle.range_columns.specs.declared.RangeRow.{RangeRow}
 use Rattle.range_columns.specs.Limbs.{joined_limbs, V1}
 use Rattle.range_columns.specs.Equations.{is_number, first_number, last_number, range_difference, Q1, Q2, Q3, Q4}
 use Rattle.table_file.specs.Tables.{Contents}
@@ -24,7 +27,7 @@ use Rattle.constraint_checker.specs.Lists.{accesses, range_values}
 abbrev pub rows_with_next : Contents → List (Columns × Registers)
 rows_with_next tables = with_next (map columns tables.rows) (registers tables.last)
 
--- The states of the rows, and the last state behind them. The whitepaper's register columns.
+-- The states of the rows, and the last state after them. The whitepaper's register columns.
 abbrev pub states : Contents → List Registers
 states tables = states_of (map columns tables.rows) (registers tables.last)
 
@@ -32,14 +35,14 @@ states tables = states_of (map columns tables.rows) (registers tables.last)
 abbrev pub first_state : Contents → Registers
 first_state tables = slice_index_or (states tables) 0 (registers tables.last)
 
--- The last state, behind all rows. The whitepaper's register columns.
+-- The last state, after all rows. The whitepaper's register columns.
 abbrev pub last_state : Contents → Registers
 last_state tables = registers tables.last
 
 -- ---- the constraints one after another
 
--- A written constraint at one place of the tables: its name, the row that its failure is told at, and whether it holds.
--- Own.
+-- A written constraint at one place of the tables: its name, the row that its failure is reported at, and whether it
+-- holds. Own.
 pub record Condition : Type 0 where
   pub constraint : Constraint
   pub row : ℕ
@@ -53,47 +56,72 @@ condition constraint row holds = record { constraint = constraint; row = row; ho
 abbrev pub are_one : Constraint → Option ℕ → Condition
 are_one constraint difference = condition constraint (unwrap_or difference 0) (is_none difference)
 
--- What is asked of each item of a list and its place, one item after another. Own.
-abbrev pub at_each : {X : Type 0} → List X → (ℕ → X → List Condition) → List Condition
-at_each items asked = flat_map (λ at. asked at.0 at.1) (enumerate_from 0 items)
+-- What is asked of each item of a list and its place, one item after another. The first item has the place `start`. Own.
+abbrev pub at_each : {X : Type 0} → ℕ → List X → (ℕ → X → List Condition) → List Condition
+at_each start items asked = flat_map (λ at. asked at.0 at.1) (enumerate_from start items)
 
 -- Each item with the one after it. Own.
 abbrev pub neighbours : {X : Type 0} → List X → List (X × X)
 neighbours items = zip items (drop 1 items)
 
--- All written constraints in their order. C1 to C39 are asked of each row and the state after it, and V1 of each range
--- row. M1 and M2 are asked of each sorted pair and the next, Q2 of each sorted range value and the next. The
--- whitepaper's constraints of the Cairo machine, of its memory and of its range checks; C32 to C39, V1, M3 and Q4 are
--- own.
-unfoldable pub conditions : Listing → Statement → Contents → List Condition
-conditions program public tables =
-    let pairs = tables.pairs in
-    let values = tables.sorted_range in
+-- P1 to P5: the counts and the first state. The whitepaper's constraints of the Cairo machine.
+unfoldable pub start_conditions : Listing → Statement → Contents → List Condition
+start_conditions program public tables =
     let first = first_state tables in
-    let last = last_state tables in
-    let steps = length tables.rows in
-    (condition (P 1) 0 (steps == public.steps)
+    condition (P 1) 0 (length tables.rows == public.steps)
     ∷ condition (P 2) 0 (length tables.range == public.range_count)
     ∷ condition (P 3) 0 (first.pc == 1 + program.start)
     ∷ condition (P 4) 0 (first.ap == public.ap_first.number)
     ∷ condition (P 5) 0 (first.fp == public.ap_first.number)
-    ∷ [])
-    ++ at_each (rows_with_next tables) (λ i row. map (λ e. condition (C e.number) i (holds e)) (equations row.0 row.1))
-    ++ (condition (P 6) steps (last.pc == 1 + program.end)
-    ∷ condition (P 7) steps (last.ap == public.ap_last.number)
-    ∷ [])
-    ++ at_each tables.range (λ i row. condition (V 1) i (row.value.number == joined_limbs row) ∷ [])
-    ++ at_each (neighbours pairs) (λ i pair.
+    ∷ []
+
+-- C1 to C39 of each of these rows and the state after it, where the first of them is row `start`. The whitepaper's
+-- constraints of the Cairo machine; C32 to C39 are own.
+unfoldable pub row_conditions : ℕ → List (Columns × Registers) → List Condition
+row_conditions start rows = at_each start rows (λ i row. map (λ e. condition (C e.number) i (holds e)) (equations row.0 row.1))
+
+-- P6 and P7: the last state. The whitepaper's constraints of the Cairo machine.
+unfoldable pub end_conditions : Listing → Statement → Contents → List Condition
+end_conditions program public tables =
+    let last = last_state tables in
+    condition (P 6) (length tables.rows) (last.pc == 1 + program.end)
+    ∷ condition (P 7) (length tables.rows) (last.ap == public.ap_last.number)
+    ∷ []
+
+-- V1 of each of these range rows, where the first of them is range row `start`. Own.
+unfoldable pub limb_conditions : ℕ → List RangeRow → List Condition
+limb_conditions start rows = at_each start rows (λ i row. condition (V 1) i (row.value.number == joined_limbs row) ∷ [])
+
+-- M1 and M2 of each sorted pair and the next, and M3 of all accesses and the sorted pairs. The whitepaper's constraints
+-- of the memory; M3 is own.
+unfoldable pub memory_conditions : (accessed sorted : List Pair) → List Condition
+memory_conditions accessed sorted =
+    at_each 0 (neighbours sorted) (λ i pair.
     condition (M 1) i (m1 pair.0 pair.1 == 0)
     ∷ condition (M 2) i (m2 pair.0 pair.1 == 0)
     ∷ [])
-    ++ (are_one (M 3) (pair_difference (accesses program public tables) pairs)
-    ∷ condition (Q 1) 0 (is_number public.rc_min (first_number values))
+    ++ (are_one (M 3) (pair_difference accessed sorted) ∷ [])
+
+-- Q1, Q2 of each sorted value and the next, Q3, and Q4 of all values and the sorted ones. They are to lie from the least
+-- to the greatest. The whitepaper's constraints of the range checks; Q4 is own.
+unfoldable pub small_conditions : (values sorted : List Felt) → (least greatest : ℕ) → List Condition
+small_conditions values sorted least greatest =
+    (condition (Q 1) 0 (is_number least (first_number sorted)) ∷ [])
+    ++ at_each 0 (neighbours sorted) (λ i pair. condition (Q 2) i (climb pair.0.number pair.1.number == 0) ∷ [])
+    ++ (condition (Q 3) (length sorted - 1) (is_number greatest (last_number sorted))
+    ∷ are_one (Q 4) (range_difference values sorted)
     ∷ [])
-    ++ at_each (neighbours values) (λ i pair. condition (Q 2) i (climb pair.0.number pair.1.number == 0) ∷ [])
-    ++ (condition (Q 3) (length values - 1) (is_number public.rc_max (last_number values))
-    ∷ are_one (Q 4) (range_difference (range_values tables) values)
-    ∷ [])
+
+-- All written constraints in their order. The whitepaper's constraints of the Cairo machine, of its memory and of its
+-- range checks; C32 to C39, V1, M3 and Q4 are own.
+unfoldable pub conditions : Listing → Statement → Contents → List Condition
+conditions program public tables =
+    start_conditions program public tables
+    ++ row_conditions 0 (rows_with_next tables)
+    ++ end_conditions program public tables
+    ++ limb_conditions 0 tables.range
+    ++ memory_conditions (accesses program public tables) tables.pairs
+    ++ small_conditions (range_values tables) tables.sorted_range public.rc_min public.rc_max
 
 -- ---- the constraints, each once
 

@@ -4,6 +4,8 @@ pub mod Verdict
 pub mod Acceptance
 pub mod Shown
 pub mod Parts
+pub use Rattle.goldilocks.specs.Felts
+pub use Rattle.goldilocks.specs.Cells
 pub use Rattle.casm_word.specs.Transition
 pub use Rattle.casm_word.specs.Run
 pub use Rattle.cpu_rows.specs.Columns
@@ -13,6 +15,7 @@ pub use Rattle.memory_columns.specs.OneMemory
 pub use Rattle.range_columns.specs.Limbs
 pub use Rattle.program_file.specs.Listing
 pub use Rattle.public_input.specs.Statement
+pub use Rattle.public_input.specs.Limits
 pub use Rattle.public_input.specs.Valid
 pub use Rattle.table_file.specs.Tables
 pub use Rattle.memory_columns.specs.Filling

@@ -6,13 +6,16 @@ ghost use Rattle.program_file.specs.Listing.{listing};
 ghost use Rattle.public_input.specs.Statement.{statement};
 ghost use Rattle.public_input.specs.Valid.{IsValid};
 ghost use Rattle.table_file.specs.Tables.{contents, AreValid};
-ghost use Rattle.constraint_checker.specs.Constraints.{first_state, MeetsAll};
+ghost use Rattle.access_lists.specs.Accesses.{access_parts};
+ghost use Rattle.constraint_checker.specs.Lists.{accessing, accesses, range_values};
+ghost use Rattle.constraint_checker.specs.Constraints.{first_state, rows_with_next, start_conditions, row_conditions, end_conditions};
+ghost use Rattle.constraint_checker.specs.Constraints.{limb_conditions, memory_conditions, small_conditions, MeetsAll};
 ghost use Rattle.constraint_checker.specs.Verdict.{verdict_on, verdict};
 ghost use Rattle.constraint_checker.specs.Acceptance.{DescribeRun};
-ghost use Rattle.constraint_checker.specs.Parts.{start_conditions, row_conditions, end_conditions, limb_conditions, run_conditions, memory_conditions, small_conditions, RunsAnywhere};
+ghost use Rattle.constraint_checker.specs.Parts.{run_conditions, RunsAnywhere};
 
-use crate::lists::{accesses, range_values};
 use crate::{Constraint, Verdict};
+use access_lists::{Accesses, SmallValues};
 use casm_word::State;
 use cpu_rows::first_fault;
 use memory_columns::memory_fault;
@@ -22,7 +25,7 @@ use range_columns::{limb_fault, range_fault};
 use std::alloc::{AllocError, Global};
 use table_file::Tables;
 
-/// The verdict on tables: the first written constraint that fails, with the row that it is told at, or
+/// The verdict on tables: the first written constraint that fails, with the row that it is reported at, or
 /// [`Verdict::Accepted`] where none fails.
 ///
 /// First come P1 to P5, C1 to C39 by row and then by number, P6 and P7, and V1 by row. Then come M1 and M2 by row and
@@ -105,7 +108,7 @@ fn first_state(tables: &Tables) -> State
 
 /// C1 to C39 of each row.
 fn verdict_on_rows(tables: &Tables) -> Verdict
-    ensures verdict { result ≡ verdict_on (row_conditions (contents tables.now)) }
+    ensures verdict { result ≡ verdict_on (row_conditions 0 (rows_with_next (contents tables.now))) }
     ensures runs { result ≡ Verdict.Accepted → RunsAnywhere (contents tables.now) }
 {
     match first_fault(&tables.rows, tables.last) {
@@ -130,7 +133,7 @@ fn verdict_on_end(program: &Program, public: &Public, tables: &Tables) -> Verdic
 
 /// V1 of each range row.
 fn verdict_on_limbs(tables: &Tables) -> Verdict
-    ensures { result ≡ verdict_on (limb_conditions (contents tables.now)) }
+    ensures { result ≡ verdict_on (limb_conditions 0 (contents tables.now).range) }
 {
     let rows = tables.range.as_slice();
     match limb_fault(rows) {
@@ -148,12 +151,27 @@ fn verdict_on_memory(
 ) -> Result<Verdict, AllocError>
     requires valid_public { IsValid public.now }
     requires valid_tables { AreValid (contents tables.now) }
-    ensures { IfOk result (λ v. v ≡ verdict_on (memory_conditions (listing program.now) (statement public.now) (contents tables.now))) }
+    ensures { IfOk result (λ v. v ≡ verdict_on (memory_conditions
+        (accesses (listing program.now) (statement public.now) (contents tables.now)) (contents tables.now).pairs)) }
 {
-    let accesses = accesses(alloc, program, public, tables)?;
+    let accesses = accessing(program, public, tables).to_vec(alloc)?;
     match memory_fault(alloc, accesses, &tables.memory.sorted)? {
         Some(fault) => Ok(refused(Constraint::M(fault.number), fault.row)),
         None => Ok(Verdict::Accepted),
+    }
+}
+
+/// What accesses the memory.
+fn accessing<'a>(program: &'a Program, public: &'a Public, tables: &'a Tables) -> Accesses<'a>
+    ensures { access_parts result ≡ accessing (listing program.now) (statement public.now) (contents tables.now) }
+{
+    Accesses {
+        rows: &tables.rows,
+        range_begin: public.range_begin,
+        range_rows: &tables.range,
+        words: program.words(),
+        public_cells: &public.cells,
+        fillers: &tables.memory.fill,
     }
 }
 
@@ -166,9 +184,15 @@ fn verdict_on_small_values(
     requires valid_public { IsValid public.now }
     requires valid_tables { AreValid (contents tables.now) }
     requires some_row { 0 < length (contents tables.now).rows }
-    ensures { IfOk result (λ v. v ≡ verdict_on (small_conditions (statement public.now) (contents tables.now))) }
+    ensures { IfOk result (λ v. v ≡ verdict_on (small_conditions
+        (range_values (contents tables.now)) (contents tables.now).sorted_range public.now.rc_min public.now.rc_max)) }
 {
-    let values = range_values(alloc, tables)?;
+    let small = SmallValues {
+        rows: &tables.rows,
+        range_rows: &tables.range,
+        fillers: &tables.small.fill,
+    };
+    let values = small.to_vec(alloc)?;
     let sorted = tables.small.sorted.as_slice();
     match range_fault(alloc, values, sorted, public.rc_min, public.rc_max)? {
         Some(fault) => Ok(refused(Constraint::Q(fault.number), fault.row)),

@@ -4,12 +4,11 @@
 ghost use Rattle.std.specs.Prelude.{◌≡◌, ◌↔◌, IsTrue};
 
 mod checking;
-pub mod laws;
-mod lists;
+mod laws;
 mod names;
 
 pub use checking::check;
-pub use lists::{accesses, range_values};
+pub use laws::{acceptance_laws, verdict_laws};
 
 /// The name of a written constraint, which is a letter and a number: `C(33)` is C33.
 #[derive(Clone, Copy, Debug, PartialEq, Eq)]
@@ -35,7 +34,7 @@ pub enum Verdict {
     Refused {
         /// The first one that fails.
         constraint: Constraint,
-        /// The row that the failure is told at: that of the trace table, a range row, or a place in a sorted column.
+        /// The row of the failure: that of the trace table, a range row, or a place in a sorted column.
         row: u64,
     },
 }
@@ -48,6 +47,3 @@ impl Verdict {
         matches!(self, Verdict::Accepted)
     }
 }
-
-#[cfg(test)]
-mod tests;

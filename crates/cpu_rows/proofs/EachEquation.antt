@@ -30,9 +30,6 @@ module _ (r : Columns) (low : IsInField r) where
   unfolding values
   in_back k h = All-contains (λ v. v < prime) (values r) (get_or back k 0) low (Contains-append_right front back (get_or back k 0) (Contains-get_or back k 0 h))
 
-  pub pc_low : r.pc < prime
-  pc_low = in_front 0 (omega arith)
-
   pub ap_low : r.ap < prime
   ap_low = in_front 1 (omega arith)
 
@@ -50,9 +47,6 @@ module _ (r : Columns) (low : IsInField r) where
 
   pub res_low : r.res < prime
   res_low = in_back 10 (lit< tt)
-
-  pub t0_low : r.t0 < prime
-  t0_low = in_back 11 (lit< tt)
 
   pub t1_low : r.t1 < prime
   t1_low = in_back 12 (lit< tt)

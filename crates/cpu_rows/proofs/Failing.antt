@@ -15,7 +15,8 @@ use Rattle.casm_word.specs.declared.Flags.{Flags}
 use Rattle.casm_word.specs.declared.Shape.{Shape}
 use Rattle.casm_word.specs.Word.{breaks}
 use Rattle.casm_word.specs.Transition.{Registers}
-use Rattle.cpu_rows.specs.Columns.{Columns, numbers}
+use Rattle.cpu_rows.specs.Columns.{Columns}
+use Rattle.goldilocks.specs.Felts.{numbers}
 use Rattle.cpu_rows.proofs.EachEquation.{flag_low, flag_product}
 use Rattle.cpu_rows.specs.Equations.{Equation, ◌⊕◌, ◌⊖◌, ◌⊙◌, ◌≐◌, C, flag, equations, EquationHolds, holds, failing_number, IsLeastFailing}
 use Rattle.cpu_rows.specs.Steps.{zero_or_one, equation_of}

@@ -9,7 +9,8 @@ use Rattle.casm_word.specs.declared.Flags.{Flags}
 use Rattle.casm_word.specs.declared.State.{State}
 use Rattle.casm_word.specs.Transition.{Registers, registers}
 use Rattle.cpu_rows.specs.declared.Row.{Row}
-use Rattle.cpu_rows.specs.Columns.{Columns, columns, numbers, values, IsRow}
+use Rattle.cpu_rows.specs.Columns.{Columns, columns, values, IsRow}
+use Rattle.goldilocks.specs.Felts.{numbers}
 use Rattle.cpu_rows.specs.Equations.{Equation, equations, Meets, failing_number, fault, IsLeastFailing}
 use Rattle.cpu_rows.specs.Steps.{HasFlags, HasSmallOffsets, IsStep}
 use Rattle.cpu_rows.proofs.EachEquation.{first_fifteen-HasFlags}

@@ -4,7 +4,8 @@ use Rattle.std.proofs.Math.Seq.{drop-cons, take-append_seam, drop-append_seam}
 use Rattle.std.proofs.Math.ListN.{get_or-map}
 use Rattle.std.proofs.lemmas.List.{get_or_default, length-map}
 use Rattle.goldilocks.specs.declared.Felt.{Felt}
-use Rattle.cpu_rows.specs.Columns.{Columns, numbers, values}
+use Rattle.cpu_rows.specs.Columns.{Columns, values}
+use Rattle.goldilocks.specs.Felts.{numbers}
 
 -- the numbers of the values from place k on, each read with a default of its own
 abbrev pub read_from : List Felt → ℕ → List Felt → List ℕ

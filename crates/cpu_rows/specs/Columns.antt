@@ -1,7 +1,7 @@
 -- The columns of the trace table: the numbers that stand in one row. "The whitepaper" is Cairo's, ePrint 2021/1063.
-use Rattle.std.specs.Prelude.{◌≡◌, ℕ, ◌<◌, List, [], ◌∷◌, ◌++◌, map, length, All}
-use Rattle.goldilocks.specs.declared.Felt.{Felt}
+use Rattle.std.specs.Prelude.{◌≡◌, ℕ, ◌<◌, List, [], ◌∷◌, ◌++◌, length, All}
 use Rattle.goldilocks.specs.Field.{prime}
+use Rattle.goldilocks.specs.Felts.{numbers}
 use Rattle.casm_word.specs.Transition.{Registers}
 use Rattle.cpu_rows.specs.declared.Row.{Row}
 
@@ -25,10 +25,6 @@ pub record Columns : Type 0 where
   pub res : ℕ
   pub t0 : ℕ
   pub t1 : ℕ
-
--- The number of each value in a list. Own.
-abbrev pub numbers : List Felt → List ℕ
-numbers xs = map (λ x. x.number) xs
 
 -- The numbers of a row. Own.
 unfoldable pub columns : Row → Columns

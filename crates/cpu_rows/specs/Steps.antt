@@ -138,7 +138,7 @@ pub record Tells (m : Memory) (s after : Registers) (r : Columns) : Type 0 where
   pub meets : Meets r after
 
 -- The row is that of a conditional jump, whose flag JNZ is the tenth, and the next instruction is the one that lies
--- behind it. Own.
+-- after it. Own.
 unfoldable pub GoesOnBehind : Columns → Registers → Type 0
 GoesOnBehind r after = (flag r 9 ≡ 1) × (after.pc ≡ r.pc ⊕ (1 ⊕ flag r 2))
 

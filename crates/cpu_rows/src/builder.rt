@@ -3,8 +3,9 @@
 
 ghost use Rattle.std.specs.Prelude.{◌≡◌, ◌<◌, ◌/◌, ◌%◌, ◌^◌, ◌↔◌, ℕ, IsSome, IsNone, IfSome};
 ghost use Rattle.casm_word.specs.Word.{decoding};
-ghost use Rattle.casm_word.specs.Transition.{registers, moved, dst_address, op0_address, op1_address, res, next};
-ghost use Rattle.cpu_rows.specs.Columns.{columns, numbers};
+ghost use Rattle.casm_word.specs.Transition.{registers, dst_address, op0_address, op1_address, res, next};
+ghost use Rattle.cpu_rows.specs.Columns.{columns};
+ghost use Rattle.goldilocks.specs.Felts.{numbers};
 ghost use Rattle.cpu_rows.specs.Equations.{fault};
 ghost use Rattle.cpu_rows.specs.Steps.{bits_from, tilde_of, IsInverseOrZero, IsRes, row_of, IsRowOf, Tells};
 
@@ -65,15 +66,15 @@ fn read_operands<M: Reads>(m: &M, from: State, word: Word) -> Option<Operands>
     ensures none { IsNone result → (n : ℕ) → M.cells m.now from.pc.number ≡ Some n → decoding n ≡ Ok word →
         next (M.cells m.now) (registers from) ≡ None }
 {
-    let dst_addr = dst_address(word, from);
+    let dst_addr = word.dst_address(from);
     let Some(dst) = m.read(dst_addr) else {
         return None;
     };
-    let op0_addr = op0_address(word, from);
+    let op0_addr = word.op0_address(from);
     let Some(op0) = m.read(op0_addr) else {
         return None;
     };
-    let op1_addr = op1_address(word, from, op0);
+    let op1_addr = word.op1_address(from, op0);
     let Some(op1) = m.read(op1_addr) else {
         return None;
     };
@@ -85,49 +86,6 @@ fn read_operands<M: Reads>(m: &M, from: State, word: Word) -> Option<Operands>
         op0,
         op1,
     })
-}
-
-/// Where dst lies.
-fn dst_address(word: Word, from: State) -> Felt
-    ensures { result.number ≡ dst_address word (registers from) }
-{
-    moved_by(
-        if word.flags.dst_fp { from.fp } else { from.ap },
-        word.off_dst,
-    )
-}
-
-/// Where op0 lies.
-fn op0_address(word: Word, from: State) -> Felt
-    ensures { result.number ≡ op0_address word (registers from) }
-{
-    moved_by(
-        if word.flags.op0_fp { from.fp } else { from.ap },
-        word.off_op0,
-    )
-}
-
-/// Where op1 lies, given op0.
-fn op1_address(word: Word, from: State, op0: Felt) -> Felt
-    ensures { result.number ≡ op1_address word (registers from) op0.number }
-{
-    let base = if word.flags.op1_imm {
-        from.pc
-    } else if word.flags.op1_fp {
-        from.fp
-    } else if word.flags.op1_ap {
-        from.ap
-    } else {
-        op0
-    };
-    moved_by(base, word.off_op1)
-}
-
-/// The address `base` moved by `offset`.
-fn moved_by(base: Felt, offset: i16) -> Felt
-    ensures { result.number ≡ moved base.number offset }
-{
-    base.add(Felt::of_signed(i64::from(offset)))
 }
 
 /// The row of the instruction `word`, which is `inst`, with these operands.

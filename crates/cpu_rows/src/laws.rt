@@ -28,7 +28,7 @@ pub fn value_laws()
 
 /// How many rows tell a step. The row of a step is one and tells it, and a row that tells a step is of a legal one. Two
 /// rows that tell the same step agree but for res, and for t1 as it follows from res. They agree in res too, except
-/// where a conditional jump goes on to the instruction that lies behind it. There each number may stand in res.
+/// where a conditional jump goes on to the instruction that lies after it. There each number may stand in res.
 pub fn row_laws()
     ensures tells { (m : Memory) (s after : Registers) (r : Columns) →
         IsRow r → IsRowOf m s r → next m s ≡ Some after → Tells m s after r }

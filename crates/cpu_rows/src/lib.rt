@@ -58,7 +58,8 @@ pub struct Row {
 impl Row {
     ghost use Rattle.std.specs.Prelude.{◌≡◌};
     ghost use Rattle.casm_word.specs.Transition.{registers};
-    ghost use Rattle.cpu_rows.specs.Columns.{columns, numbers, values, state_of};
+    ghost use Rattle.cpu_rows.specs.Columns.{columns, values, state_of};
+    ghost use Rattle.goldilocks.specs.Felts.{numbers};
 
     /// The row's values in the order of its columns, with tilde in its place.
     pub fn values(&self) -> [Felt; 33]
@@ -141,6 +142,3 @@ impl Row {
         }
     }
 }
-
-#[cfg(test)]
-mod tests;

@@ -161,7 +161,7 @@ pub(crate) fn opening<F: Drop>(opened: io::Result<F>) -> Result<Option<F>, PortE
 }
 
 /// What a try to read came to.
-#[derive(Clone, Copy, Debug, PartialEq, Eq)]
+#[derive(Clone, Copy)]
 pub(crate) enum Tried {
     /// So many bytes were read.
     Read(usize),

@@ -15,6 +15,3 @@ pub use disk::{DiskStore, OutSink};
 pub use memory::{MemorySink, MemoryStore};
 pub use ports::{PortError, Sink, Store};
 pub use sure::{SureSink, SureStore};
-
-#[cfg(test)]
-mod tests;

@@ -1,6 +1,6 @@
 //! A real file is replaced so that nobody who reads it finds half of it.
 
-ghost use Rattle.std.specs.Prelude.{◌≡◌, ◌≢◌, IfOk, IfErr, Ok, Err, None};
+ghost use Rattle.std.specs.Prelude.{◌≡◌, ◌≢◌, IfOk, IfErr, IsOk, Ok, Err, None};
 ghost use Rattle.std.specs.IoError.{error_kind};
 ghost use Rattle.std.specs.Fs.{IsFile, file_type, metadata_mode};
 ghost use Rattle.file_port.specs.Replacing.{KeepsMode};
@@ -46,8 +46,11 @@ pub(crate) fn manner_of(found: io::Result<Metadata>) -> Manner
     }
 }
 
-/// Makes the file `name` hold `bytes`. Where that fails, a regular file is as before. What is written, and that no other
-/// file is left, is tested and not proved: no clause of the system's files tells it.
+/// Makes the file `name` hold `bytes`. A new file is flushed before it takes the place of another. Where that fails, a
+/// regular file is as before.
+///
+/// What is written, that it is flushed first, and that no other file is left, is tested and not proved. No clause of the
+/// system's files tells it.
 pub(crate) fn replace_whole<R: Files>(
     alloc: Global,
     files: &R,
@@ -60,7 +63,7 @@ pub(crate) fn replace_whole<R: Files>(
         }
         Manner::Beside(Some(_)) => Err(PortError::Failed),
         Manner::Beside(None) => replace_beside(alloc, files, name, bytes, None),
-        Manner::InPlace => or_failed(fs::write(files, name, bytes)),
+        Manner::InPlace => or_failed(write_in_place(files, name, bytes)),
     }
 }
 
@@ -114,7 +117,7 @@ fn name_beside(alloc: Global, name: &str, number: u32) -> Result<String, AllocEr
     }
 }
 
-/// Gives the new file its permissions, and then its bytes.
+/// Gives the new file its permissions and then its bytes, and flushes it. A disk that is full may say so only here.
 fn fill<F: Write + OpenFile + Drop>(
     mut file: F,
     bytes: &[u8],
@@ -123,7 +126,31 @@ fn fill<F: Write + OpenFile + Drop>(
     if let Some(permissions) = permissions {
         file.set_permissions(permissions)?;
     }
-    file.write_all(bytes)
+    file.write_all(bytes)?;
+    file.sync_all()
+}
+
+/// Writes the bytes into what the name stands for, and flushes it.
+fn write_in_place<R: Files>(files: &R, name: &str, bytes: &[u8]) -> io::Result<()> {
+    let mut file = File::create(files, name)?;
+    file.write_all(bytes)?;
+    flushed_in_place(file.sync_all())
+}
+
+/// What a flush in place came to. A device or a pipe has nothing to flush, which the system calls an invalid input; every
+/// other error is a fault.
+fn flushed_in_place(flushed: io::Result<()>) -> io::Result<()>
+    ensures ok { IfOk flushed (λ done. result ≡ Ok done) }
+    ensures unable { IfErr flushed (λ error. error_kind error ≡ ErrorKind.InvalidInput → IsOk result) }
+    ensures failed { IfErr flushed (λ error. error_kind error ≢ ErrorKind.InvalidInput → result ≡ Err error) }
+{
+    match flushed {
+        Ok(()) => Ok(()),
+        Err(error) => match error.kind() {
+            ErrorKind::InvalidInput => Ok(()),
+            _ => Err(error),
+        },
+    }
 }
 
 /// A fault of the system, whichever it is.

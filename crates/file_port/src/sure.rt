@@ -79,7 +79,8 @@ impl Store for SureStore {
     }
 
     fn read(&mut self, _alloc: Global, buf: &mut [u8]) -> Result<usize, PortError>
-        ensures reads { ReadsNext buf.new (⟦<SureStore as Store>⟧.seen self.old) (⟦<SureStore as Store>⟧.seen self.new) result }
+        ensures reads { ReadsNext buf.new (⟦<SureStore as Store>⟧.seen self.old)
+            (⟦<SureStore as Store>⟧.seen self.new) result }
         // As many bytes as fit.
         ensures fits { IfOk result (λ n. IfSome (⟦<SureStore as Store>⟧.seen self.old).reading
             (λ left. n ≡ min (length left) (length buf.new))) }

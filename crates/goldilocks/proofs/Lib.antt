@@ -9,4 +9,5 @@ pub mod Order
 pub mod Polynomials
 pub mod Worked
 pub mod Pairs
+pub mod Cells
 pub mod Generators

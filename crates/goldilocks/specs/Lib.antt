@@ -1,6 +1,6 @@
 pub mod Field
 pub mod Felts
+pub mod Cells
 pub mod Text
-pub mod FileNumbers
 pub mod Reading
 pub mod Pairs

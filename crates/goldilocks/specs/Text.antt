@@ -1,10 +1,13 @@
 -- How a number of the field is written: decimal digits, or `0x` and hexadecimal digits of either case, with
 -- any number of leading zeros.
-use Rattle.std.specs.Prelude.{◌≡◌, ℕ, ◌<◌, ◌≤◌, Bool, ◌&&◌, ◌==◌, cond, List, length, drop, slice_index, nat_lt}
+use Rattle.std.specs.Prelude.{◌≡◌, ℕ, ◌<◌, ◌≤◌, Bool, ◌&&◌, ◌==◌, cond, List, ◌++◌, length, drop, slice_index, nat_lt, codes}
 use Rattle.std.specs.Char.{digit_value}
 use Rattle.std.specs.List.{list_all}
 use Rattle.std.specs.Str.Parse.{IsNumeral, digits_value}
+use Rattle.std.specs.Fmt.{decimal}
 use Rattle.goldilocks.specs.Field.{prime}
+use Rattle.goldilocks.specs.declared.text.TextFault.{TextFault}
+use Rattle.goldilocks.specs.declared.text.TextFault.TheVariants.{Empty, BadDigit, TooLarge}
 
 -- Whether the text begins with `0x`. Own.
 abbrev pub is_marked : List ℕ → Bool
@@ -57,3 +60,9 @@ IsFirstBadDigit text i = IsFirstOther text (mark_len text) (base_of text) i
 -- The text is a number of p or more. Own.
 unfoldable pub IsTooLarge : List ℕ → Type 0
 IsTooLarge text = IsNumberText text × (prime ≤ text_number text)
+
+-- A fault as text: its name, and the index of its byte where it has one. Own.
+abbrev pub text_fault_text : TextFault → List ℕ
+text_fault_text Empty = codes "Empty"
+text_fault_text (BadDigit index) = codes "BadDigit " ++ decimal index
+text_fault_text TooLarge = codes "TooLarge"

@@ -7,6 +7,8 @@ ghost use Rattle.goldilocks.specs.Reading.{IsAnswer};
 
 use crate::{Felt, PRIME};
 use std::alloc::{AllocError, Global};
+use std::error::Error;
+use std::fmt;
 
 /// Why a text is no number of the field.
 #[derive(Clone, Copy, Debug, PartialEq, Eq)]
@@ -18,6 +20,24 @@ pub enum TextFault {
     /// The number is [`PRIME`] or more.
     TooLarge,
 }
+
+/// The name of the fault, and the index of its byte where it has one.
+impl fmt::Display for TextFault {
+    ghost use Rattle.std.specs.Prelude.{Some};
+    ghost use Rattle.goldilocks.specs.Text.{text_fault_text};
+
+    ghost output = { λ fault. Some (text_fault_text fault) };
+
+    fn fmt<W: fmt::Write>(&self, f: &mut fmt::Formatter<W>) -> fmt::Result {
+        match self {
+            TextFault::Empty => write!(f, "Empty"),
+            TextFault::BadDigit(index) => write!(f, "BadDigit {index}"),
+            TextFault::TooLarge => write!(f, "TooLarge"),
+        }
+    }
+}
+
+impl Error for TextFault {}
 
 impl Felt {
     /// The number that `text` writes in decimal digits, or in hexadecimal digits of either case after `0x`.

@@ -25,7 +25,7 @@ const SUM: u64 = 0x48307ffe7fff8000;
 /// `jmp rel imm if [ap - 1] != 0`
 const JUMP: u64 = 0x020680017fff7fff;
 
-/// Where the first sum is written: behind 66 cells of the program and a 1.
+/// Where the first sum is written: after 66 cells of the program and a 1.
 const FIRST_AP: u64 = 68;
 
 /// `states` makes the memory and the states of the run, `build` its rows beside, and `table` keeps them; `check` looks

@@ -5,13 +5,11 @@ use Rattle.json_fields.specs.Faults.{◌>>=◌, needed, demand, in_turn}
 
 -- a line that gave a value was there
 pub needed_then : {A B F : Type 0} (fault : F) (o : Option A) (k : A → Result B F) (r : B) → needed fault o >>= k ≡ Ok r → (a : A) × (o ≡ Some a) × (k a ≡ Ok r)
-unfolding needed
 needed_then fault None k r e = absurd (cc)
 needed_then fault (Some a) k r e = (a, refl, e)
 
 -- a test that was passed holds
 pub demand_then : {B F : Type 0} (fault : F) (b : Bool) (k : ⊤ → Result B F) (r : B) → demand fault b >>= k ≡ Ok r → (b ≡ true) × (k tt ≡ Ok r)
-unfolding demand
 demand_then fault true k r e = (refl, e)
 demand_then fault false k r e = absurd (cc)
 
@@ -19,11 +17,10 @@ pub ok_then : {A B F : Type 0} (m : Result A F) (k : A → Result B F) (r : B) �
 ok_then (Ok a) k r e = (a, refl, e)
 ok_then (Err f) k r e = absurd (cc)
 
--- the line after an entry was read
-given : {A F : Type 0} (fault : F) (o : Option A) (a : A) → needed fault o ≡ Ok a → o ≡ Some a
-unfolding needed
-given fault None a e = absurd (cc)
-given fault (Some b) a e = let same : b ≡ a = cc in ap Some same
+-- a value that was given was there
+pub needed_ok : {A F : Type 0} (fault : F) (o : Option A) (a : A) → needed fault o ≡ Ok a → o ≡ Some a
+needed_ok fault None a e = absurd (cc)
+needed_ok fault (Some b) a e = let same : b ≡ a = cc in ap Some same
 
 -- entries that are each read by themselves
 module _ {A B F : Type 0} (step : List B → A → Result B F) (fault : ℕ → F) (give : A → Option B) (alone : (before : List B) (d : A) → step before d ≡ needed (fault (length before)) (give d)) where
@@ -32,12 +29,12 @@ module _ {A B F : Type 0} (step : List B → A → Result B F) (fault : ℕ → 
   in_turn_ok before [] all e = let is : before ≡ all = cc in ([], sym is ∙ sym (append-nil before), refl)
   in_turn_ok before (d ∷ ds) all e =
       let first = ok_then (step before d) (λ b. in_turn step (before ++ b ∷ []) ds) all e in
-      let found = given (fault (length before)) (give d) first.0 (sym (alone before d) ∙ first.1) in
+      let found = needed_ok (fault (length before)) (give d) first.0 (sym (alone before d) ∙ first.1) in
       let rest = in_turn_ok (before ++ first.0 ∷ []) ds all first.2 in
       (first.0 ∷ rest.0, rest.1 ∙ append_assoc before (first.0 ∷ []) rest.0, ap (λ o. o ∷ map give ds) found ∙ ap (λ os. Some first.0 ∷ os) rest.2)
 
   pub in_turn_back : (before : List B) (ds : List A) (bs : List B) → map give ds ≡ map Some bs → in_turn step before ds ≡ Ok (before ++ bs)
-  unfolding in_turn needed
+  unfolding in_turn
   in_turn_back before [] [] e = ap Ok (sym (append-nil before))
   in_turn_back before [] (b ∷ bs) e = absurd (cc)
   in_turn_back before (d ∷ ds) [] e = absurd (cc)
@@ -45,38 +42,3 @@ module _ {A B F : Type 0} (step : List B → A → Result B F) (fault : ℕ → 
       let found : give d ≡ Some b = cc in
       let others : map give ds ≡ map Some bs = cc in
       rw (alone before d, found) (in_turn_back (before ++ b ∷ []) ds bs others ∙ ap Ok (append_assoc before (b ∷ []) bs))
-
--- ---- entries that are tested beside those before them
-
--- each passes the test beside those before it
-abbrev pub PassInTurn : {B : Type 0} → (List B → B → Bool) → List B → List B → Type 0
-PassInTurn test before [] = ⊤
-PassInTurn test before (b ∷ bs) = (test before b ≡ true) × PassInTurn test (before ++ b ∷ []) bs
-
-module _ {A B F : Type 0} (step : List B → A → Result B F) (fault other : ℕ → F) (give : A → Option B) (test : List B → B → Bool) (tested : (before : List B) (d : A) → step before d
-    ≡ (needed (fault (length before)) (give d) >>= λ b. demand (other (length before)) (test before b) >>= λ _. Ok b)) where
-  one_ok : (before : List B) (d : A) (b : B) → step before d ≡ Ok b → (give d ≡ Some b) × (test before b ≡ true)
-  one_ok before d b e =
-      let found = needed_then (fault (length before)) (give d) (λ x. demand (other (length before)) (test before x) >>= λ _. Ok x) b (sym (tested before d) ∙ e) in
-      let passed = demand_then (other (length before)) (test before found.0) (λ _. Ok found.0) b found.2 in
-      let same : found.0 ≡ b = cc in
-      (found.1 ∙ ap Some same, ap (test before) (sym same) ∙ passed.0)
-
-  pub in_turn_tested_ok : (before : List B) (ds : List A) (all : List B) → in_turn step before ds ≡ Ok all → (bs : List B) × (all ≡ before ++ bs) × (map give ds ≡ map Some bs) × PassInTurn test before bs
-  unfolding in_turn
-  in_turn_tested_ok before [] all e = let is : before ≡ all = cc in ([], sym is ∙ sym (append-nil before), refl, tt)
-  in_turn_tested_ok before (d ∷ ds) all e =
-      let first = ok_then (step before d) (λ b. in_turn step (before ++ b ∷ []) ds) all e in
-      let one = one_ok before d first.0 first.1 in
-      let rest = in_turn_tested_ok (before ++ first.0 ∷ []) ds all first.2 in
-      (first.0 ∷ rest.0, rest.1 ∙ append_assoc before (first.0 ∷ []) rest.0, ap (λ o. o ∷ map give ds) one.0 ∙ ap (λ os. Some first.0 ∷ os) rest.2, (one.1, rest.3))
-
-  pub in_turn_tested_back : (before : List B) (ds : List A) (bs : List B) → map give ds ≡ map Some bs → PassInTurn test before bs → in_turn step before ds ≡ Ok (before ++ bs)
-  unfolding in_turn needed demand
-  in_turn_tested_back before [] [] e h = ap Ok (sym (append-nil before))
-  in_turn_tested_back before [] (b ∷ bs) e h = absurd (cc)
-  in_turn_tested_back before (d ∷ ds) [] e h = absurd (cc)
-  in_turn_tested_back before (d ∷ ds) (b ∷ bs) e h =
-      let found : give d ≡ Some b = cc in
-      let others : map give ds ≡ map Some bs = cc in
-      rw (tested before d, found, h.0) (in_turn_tested_back (before ++ b ∷ []) ds bs others h.1 ∙ ap Ok (append_assoc before (b ∷ []) bs))

@@ -1,5 +1,5 @@
 -- A reading as the list of its faults, line by line: each line gives a value or the first fault.
-use Rattle.std.specs.Prelude.{List, [], ◌∷◌, ◌++◌, Bool, true, false, Option, Some, None, Result, Ok, Err, ⊤}
+use Rattle.std.specs.Prelude.{List, [], ◌∷◌, ◌++◌, Bool, true, false, Option, ok_or, Result, Ok, Err, ⊤}
 
 -- First the one, then what follows with its value; the first fault of the two is the answer. Own.
 infixl 10 ◌>>=◌
@@ -8,12 +8,11 @@ Ok a >>= f = f a
 Err e >>= f = Err e
 
 -- The value, or the fault where there is none. Own.
-unfoldable pub needed : {A F : Type 0} → F → Option A → Result A F
-needed fault None = Err fault
-needed fault (Some a) = Ok a
+abbrev pub needed : {A F : Type 0} → F → Option A → Result A F
+needed fault found = ok_or found fault
 
 -- The fault, unless the test holds. Own.
-unfoldable pub demand : {F : Type 0} → F → Bool → Result ⊤ F
+abbrev pub demand : {F : Type 0} → F → Bool → Result ⊤ F
 demand fault true = Ok tt
 demand fault false = Err fault
 

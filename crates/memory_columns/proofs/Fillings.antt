@@ -24,7 +24,7 @@ use Rattle.memory_columns.specs.Equations.{m1, pair_cmp, is_same_pair, pair_faul
 use Rattle.memory_columns.specs.OneMemory.{OneValueEach}
 use Rattle.memory_columns.proofs.Cells.{pair_total, pair_equal, same_pair_tells, addresses_ascend}
 use Rattle.memory_columns.proofs.PairFaults.{fault-nothing}
-use Rattle.memory_columns.specs.Filling.{Spans, unaccessed, numbers_of, filler_at, AreFillers, most_fillers}
+use Rattle.memory_columns.specs.Filling.{Spans, unaccessed, numbers_of, filler_at, AreFillers, filler_limit}
 
 module _ {A B C : Type 0} (f : B → C) (h : A → C) (xs : List A) where
   -- one more item was made of one more
@@ -242,7 +242,7 @@ module _ (accesses ordered : List Pair) (first last : Pair) (o : Ordered accesse
     pub sorted_accesses : sorted ≡ in_order pair_cmp (accesses ++ fill)
     sorted_accesses = in_turn ∙ in_order-IsPermutation_same pair_cmp pair_total pair_equal (ordered ++ fill) (accesses ++ fill) (IsPermutation-append_left fill ordered accesses (IsPermutation-sym accesses ordered o.moved))
 
-    pub fillers_fit : length (unaccessed ordered first.addr.number last.addr.number) ≤ most_fillers → length fill ≤ most_fillers
+    pub fillers_fit : length (unaccessed ordered first.addr.number last.addr.number) ≤ filler_limit → length fill ≤ filler_limit
     fillers_fit h =
         let long : length fill ≡ length (unaccessed ordered first.addr.number last.addr.number) = sym (length-map fill numbers_of) ∙ (ap length made ∙ length-map (unaccessed ordered first.addr.number last.addr.number) (filler_at m)) in
         omega arith

@@ -20,7 +20,8 @@ use Rattle.sorted_lists.proofs.Differences.{difference-none, difference-some}
 use Rattle.sorted_lists.proofs.InOrder.{IsPermutation-from_in_order}
 use Rattle.memory_columns.specs.declared.ListFault.{ListFault}
 use Rattle.memory_columns.specs.Equations.{m1, m2, pair_cmp, is_same_pair, pair_fault, pair_difference, first_memory_fault, fault_at, M1, M2, M3, IsFirstFault}
-use Rattle.memory_columns.specs.OneMemory.{memory_of_pairs, Holds, OneValueEach, IsBetween, AreOneMemory}
+use Rattle.memory_columns.specs.OneMemory.{Holds, OneValueEach, IsBetween, AreOneMemory}
+use Rattle.goldilocks.specs.Cells.{memory_of}
 use Rattle.memory_columns.proofs.Cells.{address_below, same_pair_tells}
 use Rattle.memory_columns.proofs.PairFaults.{pair_fault_tells, value_stays, fault-none}
 
@@ -28,27 +29,27 @@ abbrev addr_of : Pair → ℕ
 addr_of x = x.addr.number
 
 -- the memory reads the first place of an address
-pub read_first : (a : ℕ) (xs : List Pair) (k : ℕ) (d : Pair) → k < length xs → addr_of (get_or xs k d) ≡ a → (i : ℕ) × (i ≤ k) × (addr_of (get_or xs i d) ≡ a) × (memory_of_pairs xs a ≡ Some (get_or xs i d).value.number)
-unfolding memory_of_pairs
+pub read_first : (a : ℕ) (xs : List Pair) (k : ℕ) (d : Pair) → k < length xs → addr_of (get_or xs k d) ≡ a → (i : ℕ) × (i ≤ k) × (addr_of (get_or xs i d) ≡ a) × (memory_of xs a ≡ Some (get_or xs i d).value.number)
+unfolding memory_of
 read_first a [] k d lt e = absurd (omega arith)
 read_first a (x ∷ xs) zero d lt e = (0, omega arith, e, rw (eq-eqb x.addr.number a e) refl)
 read_first a (x ∷ xs) (suc k) d lt e =
     elim (cases_eq x.addr.number a) [
       | inl here ↦ (0, omega arith, here, rw (eq-eqb x.addr.number a here) refl)
       | inr apart ↦
-          let r : (i : ℕ) × (i ≤ k) × (addr_of (get_or xs i d) ≡ a) × (memory_of_pairs xs a ≡ Some (get_or xs i d).value.number) = read_first a xs k d (omega arith) e in
+          let r : (i : ℕ) × (i ≤ k) × (addr_of (get_or xs i d) ≡ a) × (memory_of xs a ≡ Some (get_or xs i d).value.number) = read_first a xs k d (omega arith) e in
           (suc (r.0), omega (arith, r.1), r.2, rw (ne_eqb x.addr.number a apart) (r.3))
     ]
 
 -- and reads nothing elsewhere
-pub read_somewhere : (a : ℕ) (xs : List Pair) (d : Pair) → IsSome (memory_of_pairs xs a) → (k : ℕ) × (k < length xs) × (addr_of (get_or xs k d) ≡ a)
-unfolding memory_of_pairs
+pub read_somewhere : (a : ℕ) (xs : List Pair) (d : Pair) → IsSome (memory_of xs a) → (k : ℕ) × (k < length xs) × (addr_of (get_or xs k d) ≡ a)
+unfolding memory_of
 read_somewhere a [] d e = cc
 read_somewhere a (x ∷ xs) d e =
     elim (cases_eq x.addr.number a) [
       | inl here ↦ (0, omega arith, here)
       | inr apart ↦
-          let later : IsSome (memory_of_pairs xs a) = rw (ne_eqb x.addr.number a apart) at e in
+          let later : IsSome (memory_of xs a) = rw (ne_eqb x.addr.number a apart) at e in
           let r : (k : ℕ) × (k < length xs) × (addr_of (get_or xs k d) ≡ a) = read_somewhere a xs d later in
           (suc (r.0), omega (arith, r.1), r.2)
     ]
@@ -83,13 +84,13 @@ module _ (xs : List Pair) (up : AllNeighbours (λ x y. m1 x y ≡ 0) xs) (stay :
             earlier ∙ value_stays (get_or xs j d) (get_or xs (suc j) d) (sym here ∙ e) step
       ]
 
-  pub holds_itself : Holds (memory_of_pairs xs) xs
+  pub holds_itself : Holds (memory_of xs) xs
   unfolding Holds
   holds_itself k d lt =
-      let r : (i : ℕ) × (i ≤ k) × (addr_of (get_or xs i d) ≡ addr_of (get_or xs k d)) × (memory_of_pairs xs (addr_of (get_or xs k d)) ≡ Some (get_or xs i d).value.number) = read_first (addr_of (get_or xs k d)) xs k d lt refl in
+      let r : (i : ℕ) × (i ≤ k) × (addr_of (get_or xs i d) ≡ addr_of (get_or xs k d)) × (memory_of xs (addr_of (get_or xs k d)) ≡ Some (get_or xs i d).value.number) = read_first (addr_of (get_or xs k d)) xs k d lt refl in
       r.3 ∙ ap (λ n. Some n) (same_value d (r.0) k (r.1) lt (r.2))
 
-  pub between_itself : (first last : Pair) → slice_get xs 0 ≡ Some first → slice_get xs (length xs - 1) ≡ Some last → (a : ℕ) → IsSome (memory_of_pairs xs a) ↔ IsBetween first.addr.number last.addr.number a
+  pub between_itself : (first last : Pair) → slice_get xs 0 ≡ Some first → slice_get xs (length xs - 1) ≡ Some last → (a : ℕ) → IsSome (memory_of xs a) ↔ IsBetween first.addr.number last.addr.number a
   unfolding IsBetween
   between_itself first last p q a =
       let at_first : get_or xs 0 first ≡ first = get_or_from_slice_get xs 0 first first p in
@@ -109,7 +110,7 @@ module _ (xs : List Pair) (up : AllNeighbours (λ x y. m1 x y ≡ 0) xs) (stay :
             let here : addr_of (get_or xs (r.0) first) ≡ (addr_of (get_or xs 0 first) + field_sub (addr_of (get_or xs (r.0) first)) (addr_of (get_or xs 0 first))) % prime = number_from_distance addr_of address_below xs first (r.0) in
             let there : a ≡ (addr_of (get_or xs 0 first) + field_sub a (addr_of (get_or xs 0 first))) % prime = from_distance (addr_of (get_or xs 0 first)) a (address_below (get_or xs 0 first)) (h.0) in
             let same : addr_of (get_or xs (r.0) first) ≡ a = here ∙ (ap (λ n. (addr_of (get_or xs 0 first) + n) % prime) (r.2) ∙ sym there) in
-            let found : (i : ℕ) × (i ≤ r.0) × (addr_of (get_or xs i first) ≡ a) × (memory_of_pairs xs a ≡ Some (get_or xs i first).value.number) = read_first a xs (r.0) first (omega (arith, r.1)) same in
+            let found : (i : ℕ) × (i ≤ r.0) × (addr_of (get_or xs i first) ≡ a) × (memory_of xs a ≡ Some (get_or xs i first).value.number) = read_first a xs (r.0) first (omega (arith, r.1)) same in
             rw (found.3) refl,
       )
 
@@ -150,18 +151,18 @@ one_value-from_holds m cells h x y p q e =
     let here : m y.addr.number ≡ Some y.value.number = All-contains (λ z. m z.addr.number ≡ Some z.value.number) cells y h q in
     same_Some x.value.number y.value.number (sym there ∙ (ap m e ∙ here))
 
-held_after : (accesses sorted : List Pair) → IsPermutation sorted accesses → Holds (memory_of_pairs sorted) sorted → Holds (memory_of_pairs sorted) accesses
+held_after : (accesses sorted : List Pair) → IsPermutation sorted accesses → Holds (memory_of sorted) sorted → Holds (memory_of sorted) accesses
 unfolding Holds
-held_after accesses sorted moved h = All-permutation (λ x. memory_of_pairs sorted x.addr.number ≡ Some x.value.number) sorted accesses moved h
+held_after accesses sorted moved h = All-permutation (λ x. memory_of sorted x.addr.number ≡ Some x.value.number) sorted accesses moved h
 
 pub one_memory : (accesses sorted : List Pair) → first_memory_fault accesses sorted ≡ None → length sorted < prime → AreOneMemory accesses sorted
 one_memory accesses sorted e short =
     let up : AllNeighbours (λ x y. m1 x y ≡ 0) sorted = m1_holds accesses sorted e in
     let stay : AllNeighbours (λ x y. m2 x y ≡ 0) sorted = m2_holds accesses sorted e in
     let moved : IsPermutation sorted accesses = IsPermutation-sym accesses sorted (IsPermutation-from_in_order pair_cmp accesses sorted (m3_holds accesses sorted e)) in
-    let held : Holds (memory_of_pairs sorted) accesses = held_after accesses sorted moved (holds_itself sorted up stay short) in
+    let held : Holds (memory_of sorted) accesses = held_after accesses sorted moved (holds_itself sorted up stay short) in
     record {
-      one_value = one_value-from_holds (memory_of_pairs sorted) accesses held;
+      one_value = one_value-from_holds (memory_of sorted) accesses held;
       holds = held;
       between = between_itself sorted up stay short;
     }

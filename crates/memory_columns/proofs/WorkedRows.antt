@@ -7,7 +7,7 @@ use Rattle.sorted_lists.specs.Difference.{list_difference, shorter_end}
 use Rattle.sorted_lists.specs.Climbing.{climb, first_between}
 use Rattle.sorted_lists.specs.Gaps.{absent, gaps_between}
 use Rattle.memory_columns.specs.Equations.{m1, m2, pair_fault, first_memory_fault, fault_at}
-use Rattle.memory_columns.specs.OneMemory.{memory_of_pairs}
+use Rattle.goldilocks.specs.Cells.{memory_of}
 use Rattle.memory_columns.specs.Filling.{unaccessed}
 
 abbrev cell : (a v : ℕ) → a < prime → v < prime → Pair
@@ -64,16 +64,16 @@ other_order : first_memory_fault (two_six ∷ one_five ∷ []) (one_five ∷ two
 unfolding first_memory_fault pair_fault m1 m2 climb field_sub field_mul first_between list_difference shorter_end in_order with_item
 other_order = refl
 
-first_place_is_read : memory_of_pairs (one_five ∷ one_six ∷ []) 1 ≡ Some 5
-unfolding memory_of_pairs
+first_place_is_read : memory_of (one_five ∷ one_six ∷ []) 1 ≡ Some 5
+unfolding memory_of
 first_place_is_read = refl
 
-wrapped_is_read : memory_of_pairs (wrap_first ∷ wrap_second ∷ []) 18446744069414584320 ≡ Some 7
-unfolding memory_of_pairs
+wrapped_is_read : memory_of (wrap_first ∷ wrap_second ∷ []) 18446744069414584320 ≡ Some 7
+unfolding memory_of
 wrapped_is_read = refl
 
-missing_is_not_read : memory_of_pairs (wrap_first ∷ wrap_second ∷ []) 1 ≡ None
-unfolding memory_of_pairs
+missing_is_not_read : memory_of (wrap_first ∷ wrap_second ∷ []) 1 ≡ None
+unfolding memory_of
 missing_is_not_read = refl
 
 between_one_and_four : unaccessed (one_five ∷ four_eight ∷ []) 1 4 ≡ 2 ∷ 3 ∷ []

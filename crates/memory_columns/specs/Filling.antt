@@ -1,10 +1,10 @@
 -- The fillers of the memory columns: the cells between the accessed ones that are never accessed.
-use Rattle.std.specs.Prelude.{ℕ, ◌≡◌, ◌<◌, ◌≤◌, ◌^◌, List, length, map, All, Any, unwrap_or, ⊤}
+use Rattle.std.specs.Prelude.{ℕ, ◌≡◌, ◌<◌, ◌≤◌, ◌^◌, List, length, map, All, Any, unwrap_or}
 use Rattle.goldilocks.specs.declared.Pair.{Pair}
 use Rattle.casm_word.specs.Transition.{Memory}
 use Rattle.sorted_lists.specs.Gaps.{gaps_between}
-use Rattle.memory_columns.specs.declared.SortFault.{SortFault}
-use Rattle.memory_columns.specs.declared.SortFault.TheVariants.{TooWide, Memory as WantOfMemory}
+use Rattle.memory_columns.specs.declared.fault.SortFault.{SortFault}
+use Rattle.memory_columns.specs.declared.fault.SortFault.TheVariants.{TooWide, Memory as WantOfMemory}
 
 -- The least and the greatest address of the cells. Own.
 pub record Spans (cells : List Pair) (least greatest : ℕ) : Type 0 where
@@ -33,12 +33,19 @@ pub record AreFillers (m : Memory) (accesses fill : List Pair) : Type 0 where
   pub fillers : map numbers_of fill ≡ map (filler_at m) (unaccessed accesses least greatest)
 
 -- The most fillers. Own.
-abbrev pub most_fillers : ℕ
-most_fillers = 2 ^ 21
+abbrev pub filler_limit : ℕ
+filler_limit = 2 ^ 21
+
+-- There is room for the fillers: they are at most as many as the limit. Own.
+pub record HasRoom (accesses : List Pair) : Type 0 where
+  pub least : ℕ
+  pub greatest : ℕ
+  pub spans : Spans accesses least greatest
+  pub few : length (unaccessed accesses least greatest) ≤ filler_limit
 
 -- Why there are no columns: the fillers would be more than the limit, between these addresses. Want of memory has no
--- cause. Own.
+-- cause, but there is room for the fillers then. Own.
 unfoldable pub IsCause : List Pair → SortFault → Type 0
 IsCause accesses (TooWide least greatest) =
-    Spans accesses least.number greatest.number × (most_fillers < length (unaccessed accesses least.number greatest.number))
-IsCause accesses WantOfMemory = ⊤
+    Spans accesses least.number greatest.number × (filler_limit < length (unaccessed accesses least.number greatest.number))
+IsCause accesses WantOfMemory = HasRoom accesses

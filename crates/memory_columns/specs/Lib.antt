@@ -1,6 +1,8 @@
 pub mod Equations
 pub mod OneMemory
 pub mod Filling
+pub mod Shown
+pub use Rattle.goldilocks.specs.Cells
 pub use Rattle.sorted_lists.specs.Order
 pub use Rattle.sorted_lists.specs.Difference
 pub use Rattle.sorted_lists.specs.Climbing

@@ -1,13 +1,9 @@
 -- The memory that sorted pairs make. "The whitepaper" is Cairo's, ePrint 2021/1063.
-use Rattle.std.specs.Prelude.{ℕ, ◌≡◌, ◌-◌, ◌<◌, ◌≤◌, ◌↔◌, ◌==◌, List, length, Some, IsSome, option_map, All, Contains, find, slice_get}
+use Rattle.std.specs.Prelude.{ℕ, ◌≡◌, ◌-◌, ◌<◌, ◌≤◌, ◌↔◌, List, length, Some, IsSome, All, Contains, slice_get}
 use Rattle.goldilocks.specs.Field.{prime, field_sub}
 use Rattle.goldilocks.specs.declared.Pair.{Pair}
+use Rattle.goldilocks.specs.Cells.{memory_of}
 use Rattle.casm_word.specs.Transition.{Memory}
-
--- The memory read off pairs: at each address the value at its first place. The whitepaper proves of its nondeterministic
--- continuous read-only memory that there is one; here it is read off.
-unfoldable pub memory_of_pairs : List Pair → Memory
-memory_of_pairs pairs a = option_map (λ p. p.value.number) (find (λ p. p.addr.number == a) pairs)
 
 -- The memory has the value of each cell at the cell's address. Own.
 unfoldable pub Holds : Memory → List Pair → Type 0
@@ -26,6 +22,6 @@ IsBetween low high a = (a < prime) × (field_sub a low ≤ field_sub high low)
 -- whitepaper's nondeterministic continuous read-only memory.
 pub record AreOneMemory (accesses sorted : List Pair) : Type 0 where
   pub one_value : OneValueEach accesses
-  pub holds : Holds (memory_of_pairs sorted) accesses
+  pub holds : Holds (memory_of sorted) accesses
   pub between : (first last : Pair) → slice_get sorted 0 ≡ Some first → slice_get sorted (length sorted - 1) ≡ Some last →
-      (a : ℕ) → IsSome (memory_of_pairs sorted a) ↔ IsBetween first.addr.number last.addr.number a
+      (a : ℕ) → IsSome (memory_of sorted a) ↔ IsBetween first.addr.number last.addr.number a

@@ -2,13 +2,16 @@
 #![tactic(auto)]
 
 mod checking;
-pub mod laws;
+mod fault;
+mod laws;
 mod sorting;
 
 use casm_word::Reads;
 pub use checking::memory_fault;
+pub use fault::SortFault;
 use goldilocks::{Felt, Pair};
-pub use sorting::sort_columns;
+pub use laws::memory_fault_laws;
+pub use sorting::{FILLER_LIMIT, sort_columns};
 
 /// The columns of the memory in the tables.
 #[derive(Debug, Drop)]
@@ -21,21 +24,21 @@ pub struct MemoryColumns {
 
 impl MemoryColumns {
     ghost use Rattle.std.specs.Prelude.{◌≡◌, option_map};
-    ghost use Rattle.memory_columns.specs.OneMemory.{memory_of_pairs};
+    ghost use Rattle.goldilocks.specs.Cells.{memory_of};
 
     /// The value at the first place of the address `a` in the sorted pairs, or `None` where it has none.
-    #[tactic(auto, unfolding(crate::specs::OneMemory::memory_of_pairs))]
+    #[tactic(auto, unfolding(goldilocks::specs::Cells::memory_of))]
     pub fn read(&self, a: Felt) -> Option<Felt>
-        ensures { option_map (λ x. x.number) result ≡ memory_of_pairs self.now.sorted.items a.number }
+        ensures { option_map (λ x. x.number) result ≡ memory_of self.now.sorted.items a.number }
     {
         self.sorted.iter().find(|x| x.addr == a).map(|x| x.value)
     }
 }
 
 impl Reads for MemoryColumns {
-    ghost use Rattle.memory_columns.specs.OneMemory.{memory_of_pairs};
+    ghost use Rattle.goldilocks.specs.Cells.{memory_of};
 
-    ghost cells = { λ columns. memory_of_pairs columns.sorted.items };
+    ghost cells = { λ columns. memory_of columns.sorted.items };
 
     fn read(&self, a: Felt) -> Option<Felt> {
         MemoryColumns::read(self, a)
@@ -50,20 +53,3 @@ pub struct ListFault {
     /// The first of the two neighbours for M1 and M2; for M3 the first place where the two ordered lists differ.
     pub row: u64,
 }
-
-/// Why there are no columns.
-#[derive(Clone, Copy, Debug, PartialEq, Eq)]
-pub enum SortFault {
-    /// Between the least and the greatest accessed address more than 2^21 are never accessed.
-    TooWide {
-        /// The least accessed address.
-        least: Felt,
-        /// The greatest accessed address.
-        greatest: Felt,
-    },
-    /// Want of memory.
-    Memory,
-}
-
-#[cfg(test)]
-mod tests;

@@ -6,7 +6,7 @@ ghost use Rattle.std.specs.List.Sorted.{IsNonDecreasingBy};
 ghost use Rattle.sorted_lists.specs.Order.{in_order};
 ghost use Rattle.memory_columns.specs.Equations.{pair_cmp, first_memory_fault};
 ghost use Rattle.memory_columns.specs.OneMemory.{OneValueEach};
-ghost use Rattle.memory_columns.specs.Filling.{AreFillers, IsCause, most_fillers, filler_at, numbers_of, unaccessed};
+ghost use Rattle.memory_columns.specs.Filling.{AreFillers, IsCause, filler_limit, filler_at, numbers_of, unaccessed};
 
 use crate::{MemoryColumns, SortFault};
 use casm_word::Reads;
@@ -15,12 +15,12 @@ use sorted_lists::{gap_count, gaps};
 use std::alloc::{AllocError, Global};
 
 /// The most fillers.
-const FILL_LIMIT: u64 = 2097152;
+pub const FILLER_LIMIT: u64 = 2097152;
 
 /// The columns of the accesses, of which there has to be one. The fillers are the cells between the least and the
 /// greatest accessed address that are never accessed. They go by ascending address, each with the memory's value or 0.
 ///
-/// [`SortFault::TooWide`] exactly where the fillers would be more than 2^21.
+/// [`SortFault::TooWide`] exactly where the fillers would be more than 2^21. No memory is taken before that is known.
 pub fn sort_columns<M: Reads>(
     alloc: Global,
     accesses: Vec<Pair>,
@@ -29,8 +29,8 @@ pub fn sort_columns<M: Reads>(
     requires { 0 < vec_len accesses }
     ensures fill { IfOk result (λ c. AreFillers (M.cells m.now) accesses.items c.fill.items) }
     ensures sorted { IfOk result (λ c. c.sorted.items ≡ in_order pair_cmp (accesses.items ++ c.fill.items)) }
-    ensures room { IfOk result (λ c. length c.fill.items ≤ most_fillers) }
-    ensures too_wide { IfErr result (IsCause accesses.items) }
+    ensures room { IfOk result (λ c. length c.fill.items ≤ filler_limit) }
+    ensures cause { IfErr result (IsCause accesses.items) }
 
     // What is made has no fault, where the accesses are to one memory.
     ensures no_fault { IfOk result (λ c. OneValueEach accesses.items →
@@ -40,13 +40,10 @@ pub fn sort_columns<M: Reads>(
     sorted.sort_unstable();
     let least = sorted[0].addr;
     let greatest = sorted[sorted.len() - 1].addr;
-    if gap_count(&sorted, least, greatest) > FILL_LIMIT {
+    if gap_count(&sorted, least, greatest) > FILLER_LIMIT {
         return Err(SortFault::TooWide { least, greatest });
     }
-    match filled(alloc, sorted, least, greatest, m) {
-        Ok(columns) => Ok(columns),
-        Err(_) => Err(SortFault::Memory),
-    }
+    Ok(filled(alloc, sorted, least, greatest, m)?)
 }
 
 /// The columns of ordered accesses from `least` to `greatest`.

@@ -1,5 +1,4 @@
 pub mod Entries
-pub mod Lines
 pub mod BuiltinLists
 pub mod Spelling
 pub mod WrittenPrograms

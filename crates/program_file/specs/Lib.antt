@@ -1,3 +1,4 @@
+pub mod Limits
 pub mod Listing
 pub mod Shown
 pub mod Format

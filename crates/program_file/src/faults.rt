@@ -1,8 +1,12 @@
 //! Why bytes are no program file.
+ghost use Rattle.std.specs.Prelude.{◌≡◌};
+ghost use Rattle.program_file.specs.Shown.{key_name};
+
 use std::alloc::AllocError;
+use std::error::Error;
 use std::fmt;
 
-/// A key of a program file.
+/// A key of a program file. It prints as it stands in the file.
 #[derive(Clone, Copy, Debug, PartialEq, Eq)]
 pub enum ProgramKey {
     /// `prime`, the order of the field.
@@ -26,7 +30,7 @@ pub enum ProgramFault {
     Key(ProgramKey),
     /// `prime` is another text than the field's order.
     Prime,
-    /// `data` has more than [`crate::MOST_WORDS`] entries.
+    /// `data` has more than [`crate::PROGRAM_WORD_LIMIT`] entries.
     TooLong,
     /// The entry of `data` at this index is the first that is no number of the field as a text.
     Felt(u32),
@@ -49,7 +53,21 @@ impl From<AllocError> for ProgramFault {
     }
 }
 
-/// The key's name in the file.
+impl ProgramKey {
+    /// The key as it stands in the file.
+    pub fn name(self) -> &'static str
+        ensures { result.now ≡ key_name self }
+    {
+        match self {
+            ProgramKey::Prime => "prime",
+            ProgramKey::Words => "data",
+            ProgramKey::Start => "start",
+            ProgramKey::End => "end",
+            ProgramKey::Builtins => "builtins",
+        }
+    }
+}
+
 impl fmt::Display for ProgramKey {
     ghost use Rattle.std.specs.Prelude.{Some};
     ghost use Rattle.program_file.specs.Shown.{key_name};
@@ -57,13 +75,7 @@ impl fmt::Display for ProgramKey {
     ghost output = { λ key. Some (key_name key) };
 
     fn fmt<W: fmt::Write>(&self, f: &mut fmt::Formatter<W>) -> fmt::Result {
-        match self {
-            ProgramKey::Prime => write!(f, "prime"),
-            ProgramKey::Words => write!(f, "data"),
-            ProgramKey::Start => write!(f, "start"),
-            ProgramKey::End => write!(f, "end"),
-            ProgramKey::Builtins => write!(f, "builtins"),
-        }
+        f.write_str(self.name())
     }
 }
 
@@ -76,14 +88,16 @@ impl fmt::Display for ProgramFault {
 
     fn fmt<W: fmt::Write>(&self, f: &mut fmt::Formatter<W>) -> fmt::Result {
         match self {
-            ProgramFault::Json => write!(f, "Json"),
+            ProgramFault::Json => f.write_str("Json"),
             ProgramFault::Key(key) => write!(f, "Key {key}"),
-            ProgramFault::Prime => write!(f, "Prime"),
-            ProgramFault::TooLong => write!(f, "TooLong"),
+            ProgramFault::Prime => f.write_str("Prime"),
+            ProgramFault::TooLong => f.write_str("TooLong"),
             ProgramFault::Felt(entry) => write!(f, "Felt {entry}"),
-            ProgramFault::Builtin => write!(f, "Builtin"),
+            ProgramFault::Builtin => f.write_str("Builtin"),
             ProgramFault::Label(key) => write!(f, "Label {key}"),
-            ProgramFault::Memory => write!(f, "Memory"),
+            ProgramFault::Memory => f.write_str("Memory"),
         }
     }
 }
+
+impl Error for ProgramFault {}

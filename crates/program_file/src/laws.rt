@@ -7,7 +7,7 @@ ghost use Rattle.program_file.specs.Reading.{reading};
 use crate::Program;
 
 /// The bounds that each program keeps.
-pub fn bounds(_program: &Program)
+pub fn bound_laws(_program: &Program)
     ensures { IsProgram (listing _program.now) }
 {}
 

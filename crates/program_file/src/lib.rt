@@ -2,18 +2,22 @@
 #![tactic(auto)]
 
 ghost use Rattle.std.specs.Prelude.{◌<◌, ◌≤◌, ◌^◌, length};
-ghost use Rattle.casm_word.specs.Length.{most_words};
+ghost use Rattle.casm_word.specs.Length.{program_word_limit};
 
 mod faults;
-pub mod laws;
+mod laws;
 mod reading;
 mod writing;
 
-pub use casm_word::MOST_WORDS;
+pub use casm_word::PROGRAM_WORD_LIMIT;
 pub use faults::{ProgramFault, ProgramKey};
 use goldilocks::Felt;
+pub use laws::{bound_laws, reading_laws, written_laws};
 pub use reading::read;
 pub use writing::write;
+
+/// The most bytes that a program file may have, 2^24.
+pub const PROGRAM_LIMIT: usize = 16_777_216;
 
 /// The builtins that a program uses.
 #[derive(Clone, Copy, Debug, PartialEq, Eq)]
@@ -24,7 +28,7 @@ pub struct Builtins {
     pub range: bool,
 }
 
-/// A program: 1 to [`MOST_WORDS`] words, the place of its first instruction, the place where its run ends, and its
+/// A program: 1 to [`PROGRAM_WORD_LIMIT`] words, the place of its first instruction, the place where its run ends, and its
 /// builtins.
 ///
 /// Places count words from 0, and both lie below the number of words; the type keeps these bounds.
@@ -34,7 +38,7 @@ pub struct Program {
     start: u32,
     end: u32,
     builtins: Builtins,
-    pub ghost few_words: { length words.items ≤ most_words },
+    pub ghost few_words: { length words.items ≤ program_word_limit },
     pub ghost start_inside: { start < length words.items },
     pub ghost end_inside: { end < length words.items },
 }
@@ -51,7 +55,7 @@ impl Program {
             ↔ IsProgram (record { words = words.items; start = start; end = end; builtins = builtins }) }
     {
         let count = words.len();
-        if count > MOST_WORDS || start as usize >= count || end as usize >= count {
+        if count > PROGRAM_WORD_LIMIT || start as usize >= count || end as usize >= count {
             return None;
         }
         Some(Program {
@@ -62,7 +66,7 @@ impl Program {
         })
     }
 
-    /// Its words, 1 to [`MOST_WORDS`] of them.
+    /// Its words, 1 to [`PROGRAM_WORD_LIMIT`] of them.
     pub fn words(&self) -> &[Felt]
         ensures { result.now ≡ (listing self.now).words }
     {
@@ -90,6 +94,3 @@ impl Program {
         self.builtins
     }
 }
-
-#[cfg(test)]
-mod tests;

@@ -3,16 +3,15 @@
 ghost use Rattle.std.specs.Prelude.{◌≡◌, ◌≢◌, ◌≤◌, [], Ok, Err, IfOk, IfErr, map, length};
 ghost use Rattle.serde_json.specs.View.{view};
 ghost use Rattle.serde_json.specs.Find.{as_str};
-ghost use Rattle.casm_word.specs.Length.{most_words};
+ghost use Rattle.casm_word.specs.Length.{program_word_limit};
 ghost use Rattle.json_fields.specs.Faults.{in_turn};
 ghost use Rattle.program_file.specs.Listing.{Listing, listing};
 ghost use Rattle.program_file.specs.Format.{SpellsProgram};
 ghost use Rattle.program_file.specs.Reading.{reading, word_in, is_same_text};
 ghost use Rattle.program_file.specs.Reading as lines;
-ghost use Rattle.program_file.specs.Parts.{prime_part, words_part, builtins_part, bounds_part, value_part};
 ghost use Rattle.program_file.specs.declared.faults.ProgramFault.{ProgramFault};
 
-use crate::{Builtins, MOST_WORDS, Program, ProgramFault, ProgramKey};
+use crate::{Builtins, PROGRAM_WORD_LIMIT, Program, ProgramFault, ProgramKey};
 use goldilocks::Felt;
 use json_fields::{felt_in, list_at, read_json, text_at, whole_at};
 use serde_json::Value;
@@ -40,29 +39,25 @@ pub fn read(alloc: Global, bytes: &[u8]) -> Result<Program, ProgramFault>
 }
 
 /// The program that a JSON value is, or its first fault.
-#[tactic(auto, unfolding(crate::specs::Parts::value_part, json_fields::specs::Faults::needed, json_fields::specs::Faults::demand))]
+#[tactic(auto, unfolding(crate::specs::Reading::program_in))]
 fn read_value(alloc: Global, top: &Value) -> Result<Program, ProgramFault>
-    ensures program { IfOk result (λ p. value_part (view top.now) ≡ Ok (listing p)) }
-    ensures fault { IfErr result (λ f. f ≢ ProgramFault.Memory → value_part (view top.now) ≡ Err f) }
+    ensures program { IfOk result (λ p. lines.program_in (view top.now) ≡ Ok (listing p)) }
+    ensures fault { IfErr result (λ f. f ≢ ProgramFault.Memory → lines.program_in (view top.now) ≡ Err f) }
 {
     read_prime(top)?;
     let words = read_words(alloc, top)?;
-    let Some(start) = whole_at(top, "start") else {
-        return Err(ProgramFault::Key(ProgramKey::Start));
-    };
-    let Some(end) = whole_at(top, "end") else {
-        return Err(ProgramFault::Key(ProgramKey::End));
-    };
+    let start = read_whole(top, ProgramKey::Start)?;
+    let end = read_whole(top, ProgramKey::End)?;
     let builtins = read_builtins(top)?;
     bounded(words, start, end, builtins)
 }
 
 /// Whether the order of the field is there.
-#[tactic(auto, unfolding(crate::specs::Parts::prime_part, json_fields::specs::Faults::needed, json_fields::specs::Faults::demand))]
+#[tactic(auto, unfolding(crate::specs::Reading::prime_in))]
 fn read_prime(top: &Value) -> Result<(), ProgramFault>
-    ensures { result ≡ prime_part (view top.now) }
+    ensures { result ≡ lines.prime_in (view top.now) }
 {
-    let Some(prime) = text_at(top, "prime") else {
+    let Some(prime) = text_at(top, ProgramKey::Prime.name()) else {
         return Err(ProgramFault::Key(ProgramKey::Prime));
     };
     if prime == PRIME_TEXT {
@@ -72,17 +67,25 @@ fn read_prime(top: &Value) -> Result<(), ProgramFault>
     }
 }
 
-/// The words, at most [`MOST_WORDS`] of them.
-#[tactic(auto, unfolding(crate::specs::Parts::words_part, json_fields::specs::Faults::needed, json_fields::specs::Faults::demand))]
-fn read_words(alloc: Global, top: &Value) -> Result<Vec<Felt>, ProgramFault>
-    ensures words { IfOk result (λ words. words_part (view top.now) ≡ Ok words.items) }
-    ensures few { IfOk result (λ words. length words.items ≤ most_words) }
-    ensures fault { IfErr result (λ f. f ≢ ProgramFault.Memory → words_part (view top.now) ≡ Err f) }
+/// The whole number under a key.
+#[tactic(auto, unfolding(crate::specs::Reading::whole_under))]
+fn read_whole(top: &Value, key: ProgramKey) -> Result<u64, ProgramFault>
+    ensures { result ≡ lines.whole_under key (view top.now) }
 {
-    let Some(texts) = list_at(top, "data") else {
+    whole_at(top, key.name()).ok_or(ProgramFault::Key(key))
+}
+
+/// The words, at most [`PROGRAM_WORD_LIMIT`] of them.
+#[tactic(auto, unfolding(crate::specs::Reading::words_in))]
+fn read_words(alloc: Global, top: &Value) -> Result<Vec<Felt>, ProgramFault>
+    ensures words { IfOk result (λ words. lines.words_in (view top.now) ≡ Ok words.items) }
+    ensures few { IfOk result (λ words. length words.items ≤ program_word_limit) }
+    ensures fault { IfErr result (λ f. f ≢ ProgramFault.Memory → lines.words_in (view top.now) ≡ Err f) }
+{
+    let Some(texts) = list_at(top, ProgramKey::Words.name()) else {
         return Err(ProgramFault::Key(ProgramKey::Words));
     };
-    if texts.len() > MOST_WORDS {
+    if texts.len() > PROGRAM_WORD_LIMIT {
         return Err(ProgramFault::TooLong);
     }
     read_entries(alloc, texts)
@@ -90,7 +93,7 @@ fn read_words(alloc: Global, top: &Value) -> Result<Vec<Felt>, ProgramFault>
 
 /// The words of these entries.
 fn read_entries(alloc: Global, texts: &[Value]) -> Result<Vec<Felt>, ProgramFault>
-    requires { length texts.now ≤ most_words }
+    requires { length texts.now ≤ program_word_limit }
     ensures words { IfOk result (λ words. in_turn word_in [] (map view texts.now) ≡ Ok words.items) }
     ensures count { IfOk result (λ words. length words.items ≡ length texts.now) }
     ensures fault { IfErr result (λ f. f ≢ ProgramFault.Memory → in_turn word_in [] (map view texts.now) ≡ Err f) }
@@ -106,17 +109,14 @@ fn read_entries(alloc: Global, texts: &[Value]) -> Result<Vec<Felt>, ProgramFaul
 }
 
 /// The builtins.
-#[tactic(auto, unfolding(crate::specs::Parts::builtins_part, json_fields::specs::Faults::needed, json_fields::specs::Faults::demand))]
+#[tactic(auto, unfolding(crate::specs::Reading::builtins_under))]
 fn read_builtins(top: &Value) -> Result<Builtins, ProgramFault>
-    ensures { result ≡ builtins_part (view top.now) }
+    ensures { result ≡ lines.builtins_under (view top.now) }
 {
-    let Some(names) = list_at(top, "builtins") else {
+    let Some(names) = list_at(top, ProgramKey::Builtins.name()) else {
         return Err(ProgramFault::Key(ProgramKey::Builtins));
     };
-    match builtins_in(names) {
-        Some(builtins) => Ok(builtins),
-        None => Err(ProgramFault::Builtin),
-    }
+    builtins_in(names).ok_or(ProgramFault::Builtin)
 }
 
 /// The builtins whose names these are, in their order.
@@ -147,16 +147,16 @@ fn is_text(value: &Value, text: &str) -> bool
 }
 
 /// The program, where it starts and ends at words of its own.
-#[tactic(auto, unfolding(crate::specs::Parts::bounds_part, json_fields::specs::Faults::needed, json_fields::specs::Faults::demand))]
+#[tactic(auto, unfolding(crate::specs::Reading::bounded))]
 fn bounded(
     words: Vec<Felt>,
     start: u64,
     end: u64,
     builtins: Builtins,
 ) -> Result<Program, ProgramFault>
-    requires { length words.items ≤ most_words }
-    ensures program { IfOk result (λ p. bounds_part words.items start end builtins ≡ Ok (listing p)) }
-    ensures fault { IfErr result (λ f. bounds_part words.items start end builtins ≡ Err f) }
+    requires { length words.items ≤ program_word_limit }
+    ensures program { IfOk result (λ p. lines.bounded words.items start end builtins ≡ Ok (listing p)) }
+    ensures fault { IfErr result (λ f. lines.bounded words.items start end builtins ≡ Err f) }
 {
     let count = words.len() as u64;
     if start >= count {

@@ -9,7 +9,7 @@ use Rattle.std.proofs.lemmas.Option.{slice_get-get_or}
 use Rattle.std.specs.List.{slice_get, slice_index}
 use Rattle.std.specs.List.Sorted.{IsStrictlyIncreasing}
 use Rattle.goldilocks.specs.declared.Pair.{Pair}
-use Rattle.public_input.specs.Valid.{addresses}
+use Rattle.goldilocks.specs.Cells.{addresses}
 use Rattle.public_input.specs.Reading.{is_above}
 
 -- a number above the last one may follow

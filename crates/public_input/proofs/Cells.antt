@@ -5,8 +5,8 @@ use Rattle.std.specs.List.Sorted.{IsStrictlyIncreasing}
 use Rattle.goldilocks.specs.declared.Pair.{Pair}
 use Rattle.serde_json.specs.Data.{Data}
 use Rattle.json_fields.specs.Values.{pair_in}
-use Rattle.json_fields.specs.Faults.{needed, demand, in_turn}
-use Rattle.public_input.specs.Valid.{addresses}
+use Rattle.json_fields.specs.Faults.{in_turn}
+use Rattle.goldilocks.specs.Cells.{addresses}
 use Rattle.public_input.specs.Reading.{is_above, next_cell}
 use Rattle.json_fields.proofs.Steps.{needed_then, demand_then, ok_then}
 use Rattle.public_input.proofs.Ascending.{addresses-push, above_before}
@@ -31,7 +31,7 @@ next_cell-ok before entry cell e =
     }
 
 next_cell-back : (before : List Pair) (entry : Data) (cell : Pair) → IsNext before entry cell → next_cell before entry ≡ Ok cell
-unfolding next_cell needed demand
+unfolding next_cell
 next_cell-back before entry cell next = rw (next.is, next.above) refl
 
 -- the entries are these cells, which come after those before and ascend with them

@@ -1,12 +1,12 @@
 -- What is written spells what was said.
-use Rattle.std.proofs.Common.{◌≡◌, ℕ, ◌≤◌, List, [], ◌∷◌, ◌++◌, map, Some, Ok, refl, arith}
+use Rattle.std.proofs.Common.{◌≡◌, ℕ, ◌≤◌, List, [], ◌∷◌, map, Some, Ok, refl, arith}
 use Rattle.std.specs.Str.{IsUtf8}
 use Rattle.json.proofs.Printed.Utf8.{IsUtf8-are_ascii}
-use Rattle.serde_json.specs.Data.{Data, Members, no_members, depth}
+use Rattle.serde_json.specs.Data.{depth}
 use Rattle.serde_json.specs.Read.{max_depth}
 use Rattle.json_fields.specs.Values.{json_of, pair_in, whole_at, felt_at, list_at}
-use Rattle.json_fields.specs.Plain.{IsPlain, IsAfter, HasPlainMembers}
-use Rattle.json_fields.specs.Encoding.{whole_json, felt_json, pair_json}
+use Rattle.json_fields.specs.Plain.{IsPlain, IsAfter}
+use Rattle.json_fields.specs.Encoding.{pair_json}
 use Rattle.public_input.specs.declared.fault.PublicKey.{PublicKey}
 use Rattle.public_input.specs.declared.fault.PublicKey.TheVariants.{Steps, ApFirst, ApLast, RcMin, RcMax, RangeBegin, RangeCount, Cells}
 use Rattle.public_input.specs.Shown.{key_name}
@@ -14,7 +14,7 @@ use Rattle.public_input.specs.Statement.{Statement}
 use Rattle.public_input.specs.Valid.{KeepsLimits}
 use Rattle.public_input.specs.Spelling.{SpellsPublic}
 use Rattle.public_input.specs.Reading.{reading}
-use Rattle.public_input.specs.Written.{under, statement_json, written}
+use Rattle.public_input.specs.Written.{statement_json, written}
 use Rattle.public_input.proofs.Spellings.{reading-spelled}
 use Rattle.json_fields.proofs.ReadBack.{json_of-compact_text}
 use Rattle.json_fields.proofs.Parts.{ArePlain-items_of, items_depth-items_of, map-entries, list_in-list_json, whole_in-whole_json, felt_in-felt_json, pair_in-pair_json, IsPlain-felt_json, IsPlain-pair_json, depth-pair_json}

@@ -1,5 +1,5 @@
 -- The reading says of bytes what the relation says.
-use Rattle.std.proofs.Common.{◌≡◌, ◌≢◌, ◌⊎◌, inl, inr, IfOk, IfErr, ℕ, ◌<◌, ◌≤◌, ◌^◌, List, [], length, map, Option, Some, None, Result, Ok, Err, refl, ap, sym, ◌∙◌, subst, arith}
+use Rattle.std.proofs.Common.{◌≡◌, ◌≢◌, ◌⊎◌, inl, inr, IfOk, IfErr, ℕ, ◌<◌, ◌≤◌, ◌^◌, List, [], length, map, Option, Some, Result, Ok, Err, refl, ap, sym, ◌∙◌, subst, arith}
 use Rattle.std.proofs.lemmas.Bool.{ltb-true, lt-ltb, leb-true, le-leb}
 use Rattle.std.proofs.lemmas.List.{length-map}
 use Rattle.std.proofs.lemmas.Result.{MatchResult-weaker, IfOk-weaker}
@@ -8,7 +8,7 @@ use Rattle.goldilocks.specs.declared.Felt.{Felt}
 use Rattle.goldilocks.specs.declared.Pair.{Pair}
 use Rattle.serde_json.specs.Data.{Data}
 use Rattle.json_fields.specs.Values.{json_of, whole_at, felt_at, list_at, pair_in}
-use Rattle.json_fields.specs.Faults.{needed, demand}
+use Rattle.json_fields.specs.Faults.{needed}
 use Rattle.public_input.specs.declared.fault.PublicKey.{PublicKey}
 use Rattle.public_input.specs.declared.fault.PublicKey.TheVariants.{Steps, ApFirst, ApLast, RcMin, RcMax, RangeBegin, RangeCount, Cells}
 use Rattle.public_input.specs.declared.fault.PublicFault.{PublicFault}
@@ -16,29 +16,24 @@ use Rattle.public_input.specs.declared.fault.PublicFault.TheVariants.{Memory}
 use Rattle.public_input.specs.declared.Public.{Public}
 use Rattle.public_input.specs.Shown.{key_name}
 use Rattle.public_input.specs.Statement.{Statement, statement}
-use Rattle.public_input.specs.Valid.{addresses, IsValid}
+use Rattle.public_input.specs.Valid.{IsValid}
+use Rattle.goldilocks.specs.Cells.{addresses}
 use Rattle.public_input.specs.Spelling.{SpellsPublic}
 use Rattle.public_input.specs.Reading.{whole_under, felt_under, steps_in, rc_max_in, range_count_in, cells_in, statement_in, reading}
 use Rattle.public_input.specs.Parts.{Gives}
-use Rattle.json_fields.proofs.Steps.{needed_then, demand_then, ok_then}
+use Rattle.json_fields.proofs.Steps.{needed_ok, needed_then, demand_then, ok_then}
 use Rattle.public_input.proofs.Cells.{same_Ok, in_turn-ok, in_turn-back}
 
-needed-ok : {A F : Type 0} (fault : F) (o : Option A) (a : A) → needed fault o ≡ Ok a → o ≡ Some a
-unfolding needed
-needed-ok fault None a e = cc
-needed-ok fault (Some b) a e = cc
-
 needed-back : {A F : Type 0} (fault : F) (o : Option A) (a : A) → o ≡ Some a → needed fault o ≡ Ok a
-unfolding needed
 needed-back fault o a e = rw e refl
 
 whole_under-ok : (key : PublicKey) (top : Data) (n : ℕ) → whole_under key top ≡ Ok n → whole_at (key_name key) top ≡ Some n
 unfolding whole_under
-whole_under-ok key top n e = needed-ok _ _ n e
+whole_under-ok key top n e = needed_ok _ _ n e
 
 felt_under-ok : (key : PublicKey) (top : Data) (x : Felt) → felt_under key top ≡ Ok x → felt_at (key_name key) top ≡ Some x
 unfolding felt_under
-felt_under-ok key top x e = needed-ok _ _ x e
+felt_under-ok key top x e = needed_ok _ _ x e
 
 whole_under-back : (key : PublicKey) (top : Data) (n : ℕ) → whole_at (key_name key) top ≡ Some n → whole_under key top ≡ Ok n
 unfolding whole_under
@@ -69,7 +64,7 @@ steps_in-ok top n e =
     })
 
 pub steps_in-back : (top : Data) (n : ℕ) → AreSteps top n → steps_in top ≡ Ok n
-unfolding steps_in demand
+unfolding steps_in
 steps_in-back top n are = rw (whole_under-back Steps top n are.is, lt-ltb 0 n are.some, le-leb n (2 ^ 20) are.most) refl
 
 pub record IsRcMax (rc_min : ℕ) (top : Data) (n : ℕ) : Type 0 where
@@ -91,7 +86,7 @@ rc_max_in-ok rc_min top n e =
     })
 
 pub rc_max_in-back : (rc_min : ℕ) (top : Data) (n : ℕ) → IsRcMax rc_min top n → rc_max_in rc_min top ≡ Ok n
-unfolding rc_max_in demand
+unfolding rc_max_in
 rc_max_in-back rc_min top n is = rw (whole_under-back RcMax top n is.is, lt-ltb n (2 ^ 16) is.narrow, le-leb rc_min n is.above) refl
 
 pub record IsRangeCount (top : Data) (n : ℕ) : Type 0 where
@@ -107,7 +102,7 @@ range_count_in-ok top n e =
     subst (λ (m : ℕ). IsRangeCount top m) same (record { is = whole_under-ok RangeCount top found.0 found.1; most = leb-true _ _ most.0 })
 
 pub range_count_in-back : (top : Data) (n : ℕ) → IsRangeCount top n → range_count_in top ≡ Ok n
-unfolding range_count_in demand
+unfolding range_count_in
 range_count_in-back top n is = rw (whole_under-back RangeCount top n is.is, le-leb n (2 ^ 18) is.most) refl
 
 pub record AreCells (top : Data) (cells : List Pair) : Type 0 where
@@ -140,7 +135,7 @@ cells_in-ok top cells e =
     }
 
 pub cells_in-back : (top : Data) (cells : List Pair) → AreCells top cells → cells_in top ≡ Ok cells
-unfolding cells_in needed demand
+unfolding cells_in
 cells_in-back top cells are =
     let few : length are.listed ≤ 2 ^ 18 = omega (arith, length-listed are.listed cells are.are, are.most) in
     rw (are.entries, le-leb (length are.listed) (2 ^ 18) few) (in_turn-back [] are.listed cells are.are are.ascending)
@@ -206,7 +201,7 @@ statement_in-back bytes s spells =
     rw (steps, ap_first, ap_last, rc_min, rc_max, range_begin, range_count, cells) refl
 
 pub reading-spelled : (bytes : List ℕ) (s : Statement) → SpellsPublic bytes s → reading bytes ≡ Ok s
-unfolding reading needed
+unfolding reading
 reading-spelled bytes s spells = rw (spells.json) (statement_in-back bytes s spells)
 
 pub one_statement : (bytes : List ℕ) (s t : Statement) → SpellsPublic bytes s → SpellsPublic bytes t → s ≡ t
@@ -227,7 +222,7 @@ spelled_or_faulty bytes = either bytes (reading bytes) refl
 
 module _ (bytes : List ℕ) (top : Data) (json : json_of bytes ≡ Some top) (answer : Result Public PublicFault) (gives : Gives statement (statement_in top) answer) where
   lines : reading bytes ≡ statement_in top
-  unfolding reading needed
+  unfolding reading
   lines = rw json refl
 
   pub read_spells : IfOk answer (λ p. SpellsPublic bytes (statement p))

@@ -1,3 +1,4 @@
+pub mod Limits
 pub mod Statement
 pub mod Valid
 pub mod Shown
@@ -5,6 +6,7 @@ pub mod Spelling
 pub mod Reading
 pub mod Written
 pub mod Parts
+pub use Rattle.goldilocks.specs.Cells
 pub use Rattle.json_fields.specs.FieldTexts
 pub use Rattle.json_fields.specs.Values
 pub use Rattle.json_fields.specs.Faults

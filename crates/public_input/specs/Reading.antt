@@ -11,7 +11,7 @@ use Rattle.public_input.specs.declared.fault.PublicFault.{PublicFault}
 use Rattle.public_input.specs.declared.fault.PublicFault.TheVariants.{Json, Key, Range, TooMany, Cell, Order}
 use Rattle.public_input.specs.Shown.{key_name}
 use Rattle.public_input.specs.Statement.{Statement}
-use Rattle.public_input.specs.Valid.{step_limit, small_bound, range_cell_limit, public_cell_limit}
+use Rattle.public_input.specs.Limits.{step_limit, small_limit, range_cell_limit, public_cell_limit}
 
 -- The whole number under a key. Own.
 unfoldable pub whole_under : PublicKey → Data → Result ℕ PublicFault
@@ -33,7 +33,7 @@ steps_in top = do
 unfoldable pub rc_max_in : ℕ → Data → Result ℕ PublicFault
 rc_max_in rc_min top = do
   rc_max ← whole_under RcMax top
-  _ ← demand (Range RcMax) (nat_lt rc_max small_bound)
+  _ ← demand (Range RcMax) (nat_lt rc_max small_limit)
   _ ← demand (Range RcMin) (nat_le rc_min rc_max)
   Ok rc_max
 

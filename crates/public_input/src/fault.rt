@@ -3,6 +3,7 @@ ghost use Rattle.std.specs.Prelude.{◌≡◌};
 ghost use Rattle.public_input.specs.Shown.{key_name};
 
 use std::alloc::AllocError;
+use std::error::Error;
 use std::fmt;
 
 /// A key of a public file. It prints as it stands in the file.
@@ -95,13 +96,15 @@ impl fmt::Display for PublicFault {
 
     fn fmt<W: fmt::Write>(&self, f: &mut fmt::Formatter<W>) -> fmt::Result {
         match self {
-            PublicFault::Json => write!(f, "Json"),
+            PublicFault::Json => f.write_str("Json"),
             PublicFault::Key(key) => write!(f, "Key {key}"),
             PublicFault::Range(key) => write!(f, "Range {key}"),
-            PublicFault::TooMany => write!(f, "TooMany"),
+            PublicFault::TooMany => f.write_str("TooMany"),
             PublicFault::Cell(i) => write!(f, "Cell {i}"),
             PublicFault::Order(i) => write!(f, "Order {i}"),
-            PublicFault::Memory => write!(f, "Memory"),
+            PublicFault::Memory => f.write_str("Memory"),
         }
     }
 }
+
+impl Error for PublicFault {}

@@ -3,23 +3,27 @@
 #![tactic(auto)]
 
 mod fault;
-pub mod laws;
+mod laws;
 mod reading;
 mod writing;
 
 pub use fault::{PublicFault, PublicKey};
 use goldilocks::{Felt, Pair};
+pub use laws::spelling_laws;
 pub use reading::read;
 pub use writing::write;
+
+/// The most bytes that a public file may have, 2^25.
+pub const PUBLIC_LIMIT: usize = 33_554_432;
 
 /// The most steps of a run, 2^20.
 pub const STEP_LIMIT: u32 = 1_048_576;
 
 /// The most range cells, 2^18.
-pub const RANGE_LIMIT: u32 = 262_144;
+pub const RANGE_CELL_LIMIT: u32 = 262_144;
 
 /// The most public cells, 2^18.
-pub const CELL_LIMIT: u32 = 262_144;
+pub const PUBLIC_CELL_LIMIT: u32 = 262_144;
 
 /// The first number that has more than 16 bits, 2^16. The small values of a table lie below it.
 pub const SMALL_LIMIT: u32 = 65_536;
@@ -30,7 +34,7 @@ pub const SMALL_LIMIT: u32 = 65_536;
 ///
 /// - it has a step, and no more than [`STEP_LIMIT`];
 /// - `rc_min` is at most `rc_max`, which is below [`SMALL_LIMIT`];
-/// - there are at most [`RANGE_LIMIT`] range cells and [`CELL_LIMIT`] public ones;
+/// - there are at most [`RANGE_CELL_LIMIT`] range cells and [`PUBLIC_CELL_LIMIT`] public ones;
 /// - the addresses of the public cells ascend strictly.
 #[derive(Debug, Drop)]
 pub struct Public {
@@ -51,6 +55,3 @@ pub struct Public {
     /// The public cells, by strictly ascending addresses.
     pub cells: Vec<Pair>,
 }
-
-#[cfg(test)]
-mod tests;

@@ -4,13 +4,16 @@ ghost use Rattle.serde_json.specs.View.{view};
 ghost use Rattle.json_fields.specs.Faults.{in_turn};
 ghost use Rattle.public_input.specs.declared.fault.PublicFault.{PublicFault};
 ghost use Rattle.public_input.specs.Statement.{Statement, statement};
-ghost use Rattle.public_input.specs.Valid.{IsValid, public_cell_limit};
+ghost use Rattle.public_input.specs.Limits.{public_cell_limit};
+ghost use Rattle.public_input.specs.Valid.{IsValid};
 ghost use Rattle.public_input.specs.Spelling.{SpellsPublic};
 ghost use Rattle.public_input.specs.Reading as lines;
 ghost use Rattle.public_input.specs.Reading.{reading};
 ghost use Rattle.public_input.specs.Parts.{Gives};
 
-use crate::{CELL_LIMIT, Public, PublicFault, PublicKey, RANGE_LIMIT, SMALL_LIMIT, STEP_LIMIT};
+use crate::{
+    PUBLIC_CELL_LIMIT, Public, PublicFault, PublicKey, RANGE_CELL_LIMIT, SMALL_LIMIT, STEP_LIMIT,
+};
 use goldilocks::{Felt, Pair};
 use json_fields::{felt_at, list_at, pair_in, read_json, whole_at};
 use serde_json::Value;
@@ -21,7 +24,7 @@ use std::alloc::{AllocError, Global};
 /// Else it is the first fault: [`PublicFault::Json`], then those of `steps`, `ap_first`, `ap_last`, `rc_min`, `rc_max`,
 /// `range_begin` and `range_count`, then those of `cells`, one entry after another. Of equal keys the last one counts,
 /// and other keys are passed over.
-#[tactic(auto, unfolding(crate::specs::Reading::reading, json_fields::specs::Faults::needed))]
+#[tactic(auto, unfolding(crate::specs::Reading::reading))]
 pub fn read(alloc: Global, bytes: &[u8]) -> Result<Public, PublicFault>
     ensures says { IfOk result (λ p. reading bytes.now ≡ Ok (statement p)) }
     ensures fault { IfErr result (λ fault. fault ≢ PublicFault.Memory → reading bytes.now ≡ Err fault) }
@@ -64,29 +67,23 @@ fn read_statement(alloc: Global, top: &Value) -> Result<Public, PublicFault>
 }
 
 /// The whole number under a key.
-#[tactic(auto, unfolding(crate::specs::Reading::whole_under, json_fields::specs::Faults::needed))]
+#[tactic(auto, unfolding(crate::specs::Reading::whole_under))]
 fn read_whole(top: &Value, key: PublicKey) -> Result<u64, PublicFault>
     ensures { result ≡ lines.whole_under key (view top.now) }
 {
-    let Some(number) = whole_at(top, key.name()) else {
-        return Err(PublicFault::Key(key));
-    };
-    Ok(number)
+    whole_at(top, key.name()).ok_or(PublicFault::Key(key))
 }
 
 /// The field value under a key.
-#[tactic(auto, unfolding(crate::specs::Reading::felt_under, json_fields::specs::Faults::needed))]
+#[tactic(auto, unfolding(crate::specs::Reading::felt_under))]
 fn read_felt(top: &Value, key: PublicKey) -> Result<Felt, PublicFault>
     ensures { result ≡ lines.felt_under key (view top.now) }
 {
-    let Some(number) = felt_at(top, key.name()) else {
-        return Err(PublicFault::Key(key));
-    };
-    Ok(number)
+    felt_at(top, key.name()).ok_or(PublicFault::Key(key))
 }
 
 /// The number of steps.
-#[tactic(auto, unfolding(crate::specs::Reading::steps_in, json_fields::specs::Faults::demand))]
+#[tactic(auto, unfolding(crate::specs::Reading::steps_in))]
 fn read_steps(top: &Value) -> Result<u32, PublicFault>
     ensures { result ≡ lines.steps_in (view top.now) }
 {
@@ -101,7 +98,7 @@ fn read_steps(top: &Value) -> Result<u32, PublicFault>
 }
 
 /// The greatest small value, beside the least.
-#[tactic(auto, unfolding(crate::specs::Reading::rc_max_in, json_fields::specs::Faults::demand))]
+#[tactic(auto, unfolding(crate::specs::Reading::rc_max_in))]
 fn read_rc_max(top: &Value, rc_min: u64) -> Result<u32, PublicFault>
     ensures line { result ≡ lines.rc_max_in rc_min (view top.now) }
     ensures above { IfOk result (λ rc_max. rc_min ≤ rc_max) }
@@ -117,26 +114,26 @@ fn read_rc_max(top: &Value, rc_min: u64) -> Result<u32, PublicFault>
 }
 
 /// The number of range cells.
-#[tactic(auto, unfolding(crate::specs::Reading::range_count_in, json_fields::specs::Faults::demand))]
+#[tactic(auto, unfolding(crate::specs::Reading::range_count_in))]
 fn read_range_count(top: &Value) -> Result<u32, PublicFault>
     ensures { result ≡ lines.range_count_in (view top.now) }
 {
     let range_count = read_whole(top, PublicKey::RangeCount)?;
-    if range_count > u64::from(RANGE_LIMIT) {
+    if range_count > u64::from(RANGE_CELL_LIMIT) {
         return Err(PublicFault::TooMany);
     }
     Ok(range_count as u32)
 }
 
 /// The public cells.
-#[tactic(auto, unfolding(crate::specs::Reading::cells_in, json_fields::specs::Faults::needed, json_fields::specs::Faults::demand))]
+#[tactic(auto, unfolding(crate::specs::Reading::cells_in))]
 fn read_cells(alloc: Global, top: &Value) -> Result<Vec<Pair>, PublicFault>
     ensures { Gives (λ cells. cells.items) (lines.cells_in (view top.now)) result }
 {
     let Some(entries) = list_at(top, PublicKey::Cells.name()) else {
         return Err(PublicFault::Key(PublicKey::Cells));
     };
-    if entries.len() > CELL_LIMIT as usize {
+    if entries.len() > PUBLIC_CELL_LIMIT as usize {
         return Err(PublicFault::TooMany);
     }
     read_entries(alloc, entries)
@@ -165,15 +162,13 @@ fn push(cells: &mut Vec<Pair>, cell: Pair) -> Result<(), AllocError>
 }
 
 /// The cell of an entry, after the cells of the entries before.
-#[tactic(auto, unfolding(crate::specs::Reading::next_cell, json_fields::specs::Faults::needed, json_fields::specs::Faults::demand))]
+#[tactic(auto, unfolding(crate::specs::Reading::next_cell))]
 fn read_cell(before: &[Pair], entry: &Value) -> Result<Pair, PublicFault>
     requires { length before.now ≤ public_cell_limit }
     ensures { result ≡ lines.next_cell before.now (view entry.now) }
 {
     let index = before.len() as u32;
-    let Some(cell) = pair_in(entry) else {
-        return Err(PublicFault::Cell(index));
-    };
+    let cell = pair_in(entry).ok_or(PublicFault::Cell(index))?;
     if !is_above(cell.addr, before) {
         return Err(PublicFault::Order(index));
     }

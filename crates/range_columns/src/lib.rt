@@ -2,12 +2,13 @@
 #![tactic(auto)]
 
 mod checking;
-pub mod laws;
+mod laws;
 mod limbs;
 mod sorting;
 
 pub use checking::range_fault;
 use goldilocks::Felt;
+pub use laws::range_fault_laws;
 pub use limbs::{limb_fault, split};
 pub use sorting::sort_range;
 
@@ -42,6 +43,3 @@ pub struct RangeFault {
     /// ordered lists differ.
     pub row: u64,
 }
-
-#[cfg(test)]
-mod tests;

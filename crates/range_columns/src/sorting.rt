@@ -1,6 +1,7 @@
 //! The columns of given values: the fillers between them, and all of them in order.
 
-ghost use Rattle.std.specs.Prelude.{◌≡◌, ◌<◌, ◌≤◌, ◌^◌, ◌++◌, All, IfOk, None, map};
+ghost use Rattle.std.specs.Prelude.{◌≡◌, ◌<◌, ◌≤◌, ◌^◌, ◌++◌, All, IfOk, None};
+ghost use Rattle.goldilocks.specs.Felts.{numbers};
 ghost use Rattle.sorted_lists.specs.Order.{in_order};
 ghost use Rattle.range_columns.specs.Equations.{felt_cmp, first_range_fault, IsWithin};
 ghost use Rattle.range_columns.specs.Filling.{absent_values};
@@ -22,7 +23,7 @@ pub fn sort_range(
     requires range { min ≤ max }
     requires narrow { max < 2 ^ 16 }
     requires within { All (IsWithin min max) values.items }
-    ensures fill { IfOk result (λ c. map (λ x. x.number) c.fill.items ≡ absent_values values.items min max) }
+    ensures fill { IfOk result (λ c. numbers c.fill.items ≡ absent_values values.items min max) }
     ensures sorted { IfOk result (λ c. c.sorted.items ≡ in_order felt_cmp (values.items ++ c.fill.items)) }
 
     // What is made has no fault.

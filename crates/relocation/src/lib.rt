@@ -1,10 +1,10 @@
 //! Where the segments of a run come to lie, and what its values are there.
 #![tactic(auto)]
 
-ghost use Rattle.std.specs.Prelude.{◌≡◌, ◌≢◌, ℕ, ◌+◌, ◌<◌, ◌≤◌, ◌^◌, All, List, IfOk, IsSome, length, slice_index};
+ghost use Rattle.std.specs.Prelude.{◌≡◌, ◌≢◌, ℕ, ◌+◌, ◌<◌, ◌≤◌, All, List, IfOk, IsSome, length, slice_index};
 ghost use Rattle.segments.specs.declared.Place.{Place};
 ghost use Rattle.segments.specs.declared.Value.TheVariants.{Ptr};
-ghost use Rattle.segments.specs.Memory.{cell};
+ghost use Rattle.segments.specs.Memory.{cell, total_limit};
 ghost use Rattle.segments.specs.Relocation.{base, segment_bases, relocated};
 ghost use Rattle.relocation.specs.Bases.{HasBase, address_by, relocated_by};
 
@@ -16,7 +16,7 @@ use std::alloc::{AllocError, Global};
 /// that segment's size.
 pub fn bases(alloc: Global, s: &Segments) -> Result<Vec<u64>, AllocError>
     ensures bases { IfOk result (λ list. list.items ≡ segment_bases s.now.sizes) }
-    ensures low { IfOk result (λ list. All (λ b. b ≤ 2 ^ 21 + 1) list.items) }
+    ensures low { IfOk result (λ list. All (λ b. b ≤ total_limit + 1) list.items) }
 
     // No two places that hold values share an address.
     ensures distinct { IfOk result (λ list. (p q : Place) → IsSome (cell s.now p) → IsSome (cell s.now q) →
@@ -32,13 +32,14 @@ pub fn bases(alloc: Global, s: &Segments) -> Result<Vec<u64>, AllocError>
 }
 
 /// The number that a value is where the segments lie at these bases: a number is itself, and a pointer is its segment's
-/// base plus its offset. A pointer's segment has a base, and bases are at most 2^21 + 1.
+/// base plus its offset. A pointer's segment has a base, and bases are at most [`segments::TOTAL_LIMIT`] + 1.
 pub fn relocate_value(bases: &[u64], v: Value) -> Felt
     requires based { HasBase bases.now v }
-    requires low { All (λ b. b ≤ 2 ^ 21 + 1) bases.now }
+    requires low { All (λ b. b ≤ total_limit + 1) bases.now }
     ensures value { result.number ≡ relocated_by bases.now v }
     ensures of_sizes { (sizes : List ℕ) → bases.now ≡ segment_bases sizes → result.number ≡ relocated sizes v }
-    ensures not_zero { (sizes : List ℕ) (p : Place) → bases.now ≡ segment_bases sizes → v ≡ Ptr p → result.number ≢ 0 }
+    ensures not_zero { (sizes : List ℕ) (p : Place) → bases.now ≡ segment_bases sizes → v ≡ Ptr p →
+        result.number ≢ 0 }
 {
     match v {
         Value::Num(number) => number,
@@ -47,6 +48,3 @@ pub fn relocate_value(bases: &[u64], v: Value) -> Felt
         },
     }
 }
-
-#[cfg(test)]
-mod tests;

@@ -11,7 +11,7 @@ use Rattle.segments.specs.declared.Place.{Place}
 use Rattle.segments.specs.declared.Value.{Value}
 use Rattle.segments.specs.declared.Value.TheVariants.{Num, Ptr}
 use Rattle.segments.specs.Values.{place_cmp, place, same_value}
-use Rattle.segments.specs.Memory.{RunMemory, IsMemory, Grows, cell_limit, segment_limit, cell, size, has_segment, names_segment, program_memory, with_segment, sizes_with, with_cell, conflict, put_cause}
+use Rattle.segments.specs.Memory.{RunMemory, IsMemory, Grows, total_limit, segment_limit, cell, size, has_segment, names_segment, program_memory, with_segment, sizes_with, with_cell, conflict, put_cause}
 use Rattle.goldilocks.specs.Field.{prime}
 use Rattle.segments.specs.Relocation.{address, relocated}
 use Rattle.segments.specs.Columns.{HasOffset, word_value}
@@ -28,7 +28,7 @@ pub record MayPut (m : RunMemory) (p : Place) (v : Value) : Type 0 where
   pub there : p.seg < length m.sizes
   pub named : names_segment m v ≡ true
   pub fixed : (nat_eq p.seg 0 && nat_le (size m 0) p.off) ≡ false
-  pub fits : sum (sizes_with m p) ≤ cell_limit
+  pub fits : sum (sizes_with m p) ≤ total_limit
 
 no_first : {X : Type 0} (b : Bool) (x : X) (rest : Option X) → cond b (Some x) rest ≡ None → (b ≡ false) × (rest ≡ None)
 no_first true x rest e = absurd (cc)
@@ -44,10 +44,10 @@ unfolding put_cause has_segment
 may_put m p v none =
     let first = no_first (not (has_segment m p.seg && names_segment m v)) _ _ none in
     let second = no_first ((nat_eq p.seg 0) && nat_le (size m 0) p.off) _ _ first.1 in
-    let third = no_first (nat_lt cell_limit (sum (sizes_with m p))) _ _ second.1 in
+    let third = no_first (nat_lt total_limit (sum (sizes_with m p))) _ _ second.1 in
     let names = both_true (has_segment m p.seg) (names_segment m v) first.0 in
     let there : nat_lt p.seg (length m.sizes) ≡ true = names.0 in
-    let fits : nat_lt cell_limit (sum (sizes_with m p)) ≡ false = third.0 in
+    let fits : nat_lt total_limit (sum (sizes_with m p)) ≡ false = third.0 in
     record { there = grind (arith, nat_tests); named = names.1; fixed = second.0; fits = grind (arith, nat_tests) }
 
 -- ---- the sizes once a cell is written
@@ -163,15 +163,15 @@ IsMemory-with_cell m p v is offset none =
 -- ---- what is known of a memory
 
 -- no size is above the limit
-pub size_within : (m : RunMemory) (seg : ℕ) → IsMemory m → size m seg ≤ cell_limit
+pub size_within : (m : RunMemory) (seg : ℕ) → IsMemory m → size m seg ≤ total_limit
 unfolding size
 size_within m seg is = omega (arith, is.total, sums_within m.sizes seg)
 
 -- a value that may be written goes below the limit
-pub offset_within : (m : RunMemory) (p : Place) (v : Value) → IsMemory m → put_cause m p v ≡ None → p.off < cell_limit
+pub offset_within : (m : RunMemory) (p : Place) (v : Value) → IsMemory m → put_cause m p v ≡ None → p.off < total_limit
 offset_within m p v is none =
     let may : MayPut m p v = may_put m p v none in
-    let all : sum (with_cell m p v).sizes ≤ cell_limit = rw sum-with_cell may.fits in
+    let all : sum (with_cell m p v).sizes ≤ total_limit = rw sum-with_cell may.fits in
     omega (arith, size-with_cell m p v may.there, size_in_sum (with_cell m p v) p.seg)
 
 pub size_is_item : (m : RunMemory) (seg n : ℕ) → n < size m seg → n < get_or m.sizes seg 0
@@ -209,7 +209,7 @@ with_cell_again m p v is held =
 -- ---- the first cause
 
 -- the tests of the causes, one after another
-causes : (m : RunMemory) (p : Place) (v : Value) (absent fixed over : Bool) → not (has_segment m p.seg && names_segment m v) ≡ absent → (nat_eq p.seg 0 && nat_le (size m 0) p.off) ≡ fixed → nat_lt cell_limit (sum (sizes_with m p)) ≡ over → put_cause m p v ≡ cond absent (Some NoSegment) (cond fixed (Some Fixed) (cond over (Some CellLimit) (conflict (cell m p) v)))
+causes : (m : RunMemory) (p : Place) (v : Value) (absent fixed over : Bool) → not (has_segment m p.seg && names_segment m v) ≡ absent → (nat_eq p.seg 0 && nat_le (size m 0) p.off) ≡ fixed → nat_lt total_limit (sum (sizes_with m p)) ≡ over → put_cause m p v ≡ cond absent (Some NoSegment) (cond fixed (Some Fixed) (cond over (Some CellLimit) (conflict (cell m p) v)))
 unfolding put_cause
 causes m p v absent fixed over a f o = λ i. cond (a i) (Some NoSegment) (cond (f i) (Some Fixed) (cond (o i) (Some CellLimit) (conflict (cell m p) v)))
 
@@ -232,7 +232,7 @@ cause_inside m p v is there inside =
           grind (arith, nat_tests)
       | false ↦ λ e. refl
     ] refl in
-    let total : sum (sizes_with m p) ≤ cell_limit = rw (sizes_inside m p inside) is.total in
+    let total : sum (sizes_with m p) ≤ total_limit = rw (sizes_inside m p inside) is.total in
     causes m p v false false false (ap not there) fixed (grind (arith, nat_tests))
 
 pub cause_fixed : (m : RunMemory) (p : Place) (v : Value) → (has_segment m p.seg && names_segment m v) ≡ true → p.seg ≡ 0 → size m p.seg ≤ p.off → put_cause m p v ≡ Some Fixed
@@ -240,17 +240,17 @@ cause_fixed m p v there first past =
     let past' : size m 0 ≤ p.off = subst (λ (s : ℕ). size m s ≤ p.off) first past in
     causes m p v false true _ (ap not there) (grind (arith, nat_tests)) refl
 
-pub cause_limit : (m : RunMemory) (p : Place) (v : Value) → (has_segment m p.seg && names_segment m v) ≡ true → p.seg < length m.sizes → p.seg ≢ 0 → size m p.seg ≤ p.off → cell_limit ≤ sum m.sizes + (p.off - size m p.seg) → put_cause m p v ≡ Some CellLimit
+pub cause_limit : (m : RunMemory) (p : Place) (v : Value) → (has_segment m p.seg && names_segment m v) ≡ true → p.seg < length m.sizes → p.seg ≢ 0 → size m p.seg ≤ p.off → total_limit ≤ sum m.sizes + (p.off - size m p.seg) → put_cause m p v ≡ Some CellLimit
 cause_limit m p v there inside other past over =
     let total : sum (sizes_with m p) ≡ sum m.sizes + ((p.off + 1) - size m p.seg) = rw sum-with_cell at (total-with_cell m p v inside) in
-    let above : cell_limit < sum (sizes_with m p) = omega arith in
+    let above : total_limit < sum (sizes_with m p) = omega arith in
     causes m p v false false true (ap not there) (grind (arith, nat_tests)) (grind (arith, nat_tests))
 
-pub cause_none : (m : RunMemory) (p : Place) (v : Value) → IsMemory m → (has_segment m p.seg && names_segment m v) ≡ true → p.seg < length m.sizes → p.seg ≢ 0 → size m p.seg ≤ p.off → sum m.sizes + (p.off - size m p.seg) < cell_limit → put_cause m p v ≡ None
+pub cause_none : (m : RunMemory) (p : Place) (v : Value) → IsMemory m → (has_segment m p.seg && names_segment m v) ≡ true → p.seg < length m.sizes → p.seg ≢ 0 → size m p.seg ≤ p.off → sum m.sizes + (p.off - size m p.seg) < total_limit → put_cause m p v ≡ None
 unfolding conflict
 cause_none m p v is there inside other past under =
     let total : sum (sizes_with m p) ≡ sum m.sizes + ((p.off + 1) - size m p.seg) = rw sum-with_cell at (total-with_cell m p v inside) in
-    let within : sum (sizes_with m p) ≤ cell_limit = omega arith in
+    let within : sum (sizes_with m p) ≤ total_limit = omega arith in
     let free : cell m p ≡ None = not_held (cell m p) (λ held. omega (arith, is.inside p held)) in
     causes m p v false false false (ap not there) (grind (arith, nat_tests)) (grind (arith, nat_tests)) ∙ ap (λ o. conflict o v) free
   where
@@ -346,7 +346,7 @@ pub IsMemory-program : (words : List Felt) → length words ≤ 2 ^ 18 → IsMem
 IsMemory-program words few = record {
   has_program = sizes_are words (λ s. 0 < length s) (omega arith);
   segments = sizes_are words (λ s. length s ≤ segment_limit) (omega arith);
-  total = sizes_are words (λ s. sum s ≤ cell_limit) (omega arith);
+  total = sizes_are words (λ s. sum s ≤ total_limit) (omega arith);
   inside = λ p held.
       omega (arith, size-program words p.seg, program_inside words p.seg p.off (subst (λ (o : Option Value). IsSome o) (cell-program words p) held));
   last = λ seg positive.
@@ -392,7 +392,7 @@ unfolding put_cause
 held_same m p v w none held =
     let first = no_first (not (has_segment m p.seg && names_segment m v)) _ _ none in
     let second = no_first ((nat_eq p.seg 0) && nat_le (size m 0) p.off) _ _ first.1 in
-    let third = no_first (nat_lt cell_limit (sum (sizes_with m p))) _ _ second.1 in
+    let third = no_first (nat_lt total_limit (sum (sizes_with m p))) _ _ second.1 in
     no_conflict w v (ap (λ o. conflict o v) (sym held) ∙ third.1)
 
 pub Grows-with_cell : (m : RunMemory) (p : Place) (v : Value) → put_cause m p v ≡ None → Grows m (with_cell m p v)

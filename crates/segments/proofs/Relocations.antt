@@ -14,7 +14,7 @@ use Rattle.segments.specs.declared.Value.TheVariants.{Num, Ptr}
 use Rattle.segments.specs.declared.arithmetic.ArithFault.{ArithFault}
 use Rattle.segments.specs.declared.arithmetic.ArithFault.TheVariants.{OffsetRange, OtherSegment, DivByZero}
 use Rattle.segments.specs.Values.{place, number, pointer, value_sum, value_difference, value_product, value_quotient, field_quotient, place_at, moved_place}
-use Rattle.segments.specs.Memory.{cell_limit}
+use Rattle.segments.specs.Memory.{total_limit}
 use Rattle.segments.specs.Relocation.{base, address, relocated}
 use Rattle.segments.proofs.Values.{field_quotient_is}
 use Rattle.segments.proofs.Addresses.{base_within}
@@ -58,12 +58,12 @@ moved_offset b o k (pos n) low inside e = let sum : o + n ≡ k = omega (arith, 
 moved_offset b o k (negsuc n) low inside e = let sum : o ≡ k + (n + 1) = omega (arith, ints) in omega arith
 
 -- the base of a segment is small
-low_base : (sizes : List ℕ) (seg : ℕ) → sum sizes ≤ cell_limit → base sizes seg ≤ 2 ^ 21 + 1
+low_base : (sizes : List ℕ) (seg : ℕ) → sum sizes ≤ total_limit → base sizes seg ≤ 2 ^ 21 + 1
 low_base sizes seg few = omega (arith, base_within sizes seg)
 
 -- ---- the operations
 
-pub sum_relocates : (sizes : List ℕ) (a b : Value) → sum sizes ≤ cell_limit → IfOk (value_sum a b) (λ v. relocated sizes v ≡ field_add (relocated sizes a) (relocated sizes b))
+pub sum_relocates : (sizes : List ℕ) (a b : Value) → sum sizes ≤ total_limit → IfOk (value_sum a b) (λ v. relocated sizes v ≡ field_add (relocated sizes a) (relocated sizes b))
 unfolding value_sum relocated address
 sum_relocates sizes (Num x) (Num y) few = relocated-number sizes (field_add x.number y.number) ∙ mod-eq_of_lt (field_add_below x.number y.number)
 sum_relocates sizes (Num x) (Ptr q) few =
@@ -74,7 +74,7 @@ sum_relocates sizes (Ptr p) (Num y) few =
     offset_sum (base sizes p.seg) p.off y.number (low_base sizes p.seg few) inside)
 sum_relocates sizes (Ptr p) (Ptr q) few = tt
 
-pub difference_relocates : (sizes : List ℕ) (a b : Value) → sum sizes ≤ cell_limit → IfOk (value_difference a b) (λ v. relocated sizes v ≡ field_sub (relocated sizes a) (relocated sizes b))
+pub difference_relocates : (sizes : List ℕ) (a b : Value) → sum sizes ≤ total_limit → IfOk (value_difference a b) (λ v. relocated sizes v ≡ field_sub (relocated sizes a) (relocated sizes b))
 unfolding value_difference relocated address
 difference_relocates sizes (Num x) (Num y) few = relocated-number sizes (field_sub x.number y.number) ∙ mod-eq_of_lt (field_sub_below x.number y.number)
 difference_relocates sizes (Num x) (Ptr q) few = tt
@@ -98,7 +98,7 @@ product_relocates sizes (Num x) (Num y) = relocated-number sizes (field_mul x.nu
 product_relocates sizes (Num x) (Ptr q) = tt
 product_relocates sizes (Ptr p) b = tt
 
-pub move_relocates : (sizes : List ℕ) (p : Place) (by : ℤ) → sum sizes ≤ cell_limit → IfSome (moved_place p by) (λ q. address sizes q ≡ field_add (address sizes p) (field_of_int by))
+pub move_relocates : (sizes : List ℕ) (p : Place) (by : ℤ) → sum sizes ≤ total_limit → IfSome (moved_place p by) (λ q. address sizes q ≡ field_add (address sizes p) (field_of_int by))
 unfolding moved_place place_at address
 move_relocates sizes p by few =
     elim (pos p.off +ℤ by) as (λ z. pos p.off +ℤ by ≡ z → IfSome (place_at p.seg z) (λ q. base sizes q.seg + q.off ≡ field_add (base sizes p.seg + p.off) (field_of_int by))) [

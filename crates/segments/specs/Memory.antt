@@ -16,8 +16,8 @@ pub record RunMemory : Type 0 where
   pub cells : FinMap place_cmp Value
 
 -- The sizes of all segments add up to at most this. Own.
-abbrev pub cell_limit : ℕ
-cell_limit = 2 ^ 21
+abbrev pub total_limit : ℕ
+total_limit = 2 ^ 21
 
 -- There are at most this many segments. Own.
 abbrev pub segment_limit : ℕ
@@ -46,7 +46,7 @@ names_segment m (Ptr p) = has_segment m p.seg
 pub record IsMemory (m : RunMemory) : Type 0 where
   pub has_program : 0 < length m.sizes
   pub segments : length m.sizes ≤ segment_limit
-  pub total : sum m.sizes ≤ cell_limit
+  pub total : sum m.sizes ≤ total_limit
   pub inside : (p : Place) → IsSome (cell m p) → p.off < size m p.seg
   pub last : (seg : ℕ) → 0 < size m seg → IsSome (cell m (place seg (size m seg - 1)))
   pub pointers : (p q : Place) → cell m p ≡ Some (Ptr q) → (q.seg < length m.sizes) × (q.off < 2 ^ 32)
@@ -86,5 +86,5 @@ unfoldable pub put_cause : RunMemory → Place → Value → Option PutCause
 put_cause m p v =
     if not (has_segment m p.seg && names_segment m v) then Some NoSegment
     else (if (p.seg == 0) && nat_le (size m 0) p.off then Some Fixed
-    else (if nat_lt cell_limit (sum (sizes_with m p)) then Some CellLimit
+    else (if nat_lt total_limit (sum (sizes_with m p)) then Some CellLimit
     else conflict (cell m p) v))

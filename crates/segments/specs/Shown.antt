@@ -6,6 +6,8 @@ use Rattle.segments.specs.declared.Value.{Value}
 use Rattle.segments.specs.declared.Value.TheVariants.{Num, Ptr}
 use Rattle.segments.specs.declared.arithmetic.ArithFault.{ArithFault}
 use Rattle.segments.specs.declared.arithmetic.ArithFault.TheVariants.{TwoPointers, OffsetRange, NumberMinusPointer, OtherSegment, PointerProduct, PointerQuotient, DivByZero}
+use Rattle.segments.specs.declared.memory.PutFault.{PutFault}
+use Rattle.segments.specs.declared.memory.PutFault.TheVariants.{Refused, Memory}
 use Rattle.segments.specs.declared.memory.PutCause.{PutCause}
 use Rattle.segments.specs.declared.memory.PutCause.TheVariants.{NoSegment, Fixed, CellLimit, Conflict}
 
@@ -34,3 +36,8 @@ cause_text NoSegment = codes "NoSegment"
 cause_text Fixed = codes "Fixed"
 cause_text CellLimit = codes "CellLimit"
 cause_text (Conflict kept) = codes "Conflict " ++ value_text kept
+
+-- A fault of a write as text: its cause, or want of memory. Own.
+abbrev pub put_text : PutFault → List ℕ
+put_text (Refused cause) = cause_text cause
+put_text Memory = codes "Memory"

@@ -1,6 +1,6 @@
 -- Values while it isn't known where segments will lie: numbers of the field, and pointers. What a sum, a difference,
 -- a product and a quotient of them is, by cases on what they are, or why there is none.
-use Rattle.std.specs.Prelude.{ℕ, ◌%◌, ◌^◌, ℤ, pos, negsuc, ◌+ℤ◌, Bool, false, ◌&&◌, ◌==◌, nat_lt, if◌then◌else◌, Option, Some, None, List, find, unwrap_or, Result, Ok, Err}
+use Rattle.std.specs.Prelude.{◌≡◌, ◌<◌, ◌⊎◌, ℕ, ◌%◌, ◌^◌, ℤ, pos, negsuc, ◌+ℤ◌, Bool, false, ◌&&◌, ◌==◌, nat_lt, if◌then◌else◌, Option, Some, None, List, find, unwrap_or, Result, Ok, Err}
 use Rattle.std.specs.Ordering.{nat_cmp, ordering_then}
 use Rattle.std.specs.declared.cmp.Ordering.{Ordering}
 use Rattle.std.specs.List.{range_with_len}
@@ -15,6 +15,10 @@ use Rattle.segments.specs.declared.arithmetic.ArithFault.TheVariants.{TwoPointer
 -- The order of places: by segment, and then by offset. Own.
 abbrev pub place_cmp : Place → Place → Ordering
 place_cmp p q = ordering_then (nat_cmp p.seg q.seg) (nat_cmp p.off q.off)
+
+-- The place comes before the other: its segment is an earlier one, or it lies earlier in the same segment. Own.
+unfoldable pub IsBefore : Place → Place → Type 0
+IsBefore p q = (p.seg < q.seg) ⊎ ((p.seg ≡ q.seg) × (p.off < q.off))
 
 -- The place with this segment and this offset. Own.
 abbrev pub place : ℕ → ℕ → Place

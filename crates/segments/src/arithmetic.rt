@@ -2,7 +2,7 @@
 ghost use Rattle.std.specs.Prelude.{◌≡◌, ◌≤◌, ℕ, List, sum, IfOk, IfSome};
 ghost use Rattle.goldilocks.specs.Field.{field_add, field_sub, field_mul, field_of_int};
 ghost use Rattle.segments.specs.Values.{pointer, value_sum, value_difference, value_product, value_quotient, moved_place};
-ghost use Rattle.segments.specs.Memory.{cell_limit};
+ghost use Rattle.segments.specs.Memory.{total_limit};
 ghost use Rattle.segments.specs.Relocation.{address, relocated};
 
 use crate::{Place, Value};
@@ -35,7 +35,7 @@ pub fn add_value(a: Value, b: Value) -> Result<Value, ArithFault>
     ensures answer { result ≡ value_sum a b }
 
     // Wherever the segments come to lie, the sum's number is the sum of the numbers.
-    ensures relocates { (sizes : List ℕ) → sum sizes ≤ cell_limit →
+    ensures relocates { (sizes : List ℕ) → sum sizes ≤ total_limit →
         IfOk result (λ v. relocated sizes v ≡ field_add (relocated sizes a) (relocated sizes b)) }
 {
     match a {
@@ -60,7 +60,7 @@ pub fn sub_value(a: Value, b: Value) -> Result<Value, ArithFault>
     ensures answer { result ≡ value_difference a b }
 
     // Wherever the segments come to lie, the difference's number is the difference of the numbers.
-    ensures relocates { (sizes : List ℕ) → sum sizes ≤ cell_limit →
+    ensures relocates { (sizes : List ℕ) → sum sizes ≤ total_limit →
         IfOk result (λ v. relocated sizes v ≡ field_sub (relocated sizes a) (relocated sizes b)) }
 {
     match a {
@@ -128,7 +128,7 @@ pub fn shift(place: Place, by: i16) -> Option<Place>
     ensures answer { result ≡ moved_place place by }
 
     // Wherever the segments come to lie, the address moves by as much.
-    ensures relocates { (sizes : List ℕ) → sum sizes ≤ cell_limit →
+    ensures relocates { (sizes : List ℕ) → sum sizes ≤ total_limit →
         IfSome result (λ moved. address sizes moved ≡ field_add (address sizes place) (field_of_int by)) }
 {
     let off = i64::from(place.off) + i64::from(by);

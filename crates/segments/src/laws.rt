@@ -1,13 +1,30 @@
 //! Laws of the definitions: functions that do nothing, and whose contracts say what always holds.
+ghost use Rattle.std.specs.declared.cmp.Ordering.TheVariants.{Less, Equal};
 ghost use Rattle.std.specs.Prelude.{◌≡◌, ◌≢◌, ◌↔◌, ℕ, ℤ, ◌<◌, ◌≤◌, List, Option, Some, None, IsSome, IsTrue, IfOk, IfSome, sum, slice_get, option_map};
 ghost use Rattle.goldilocks.specs.declared.Felt.{Felt};
 ghost use Rattle.goldilocks.specs.Field.{prime, field_add, field_sub, field_mul, field_of_int};
 ghost use Rattle.segments.specs.declared.Place.{Place};
 ghost use Rattle.segments.specs.declared.Value.{Value};
 ghost use Rattle.segments.specs.declared.Value.TheVariants.{Num, Ptr};
-ghost use Rattle.segments.specs.Values.{place, value_sum, value_difference, value_product, value_quotient, moved_place, same_value};
-ghost use Rattle.segments.specs.Memory.{RunMemory, IsMemory, Grows, cell_limit, cell, program_memory, with_segment, with_cell};
+ghost use Rattle.segments.specs.Values.{place, place_cmp, IsBefore, value_sum, value_difference, value_product, value_quotient, moved_place, same_value};
+ghost use Rattle.segments.specs.Memory.{RunMemory, IsMemory, Grows, segment_limit, total_limit, cell, program_memory, with_segment, with_cell};
 ghost use Rattle.segments.specs.Relocation.{address, relocated};
+
+use crate::{Place, SEGMENT_LIMIT, TOTAL_LIMIT};
+
+/// Places are ordered by segment and then by offset, in the code as in the definitions.
+pub fn order_of_places()
+    ensures less { (p q : Place) → (⟦<Place as Ord>⟧.cmp p q ≡ Less) ↔ IsBefore p q }
+    ensures equal { (p q : Place) → (⟦<Place as Ord>⟧.cmp p q ≡ Equal) ↔ (p ≡ q) }
+    ensures eq { (p q : Place) → IsTrue (⟦<Place as PartialEq>⟧.eq p q) ↔ (p ≡ q) }
+    ensures defined { (p q : Place) → ⟦<Place as Ord>⟧.cmp p q ≡ place_cmp p q }
+{}
+
+/// The code's constants are the limits of the definitions.
+pub fn limit_laws()
+    ensures segments { SEGMENT_LIMIT ≡ segment_limit }
+    ensures total { TOTAL_LIMIT ≡ total_limit }
+{}
 
 /// What the memory's definitions say of single cells: a written cell holds its value, and every other stays.
 pub fn memory_laws()
@@ -26,15 +43,15 @@ pub fn memory_laws()
 /// Arithmetic that succeeds commutes with relocation: an answer's number is the field's operation on the operands'
 /// numbers, for all sizes that segments can have.
 pub fn arithmetic_laws()
-    ensures sum { (sizes : List ℕ) (a b : Value) → sum sizes ≤ cell_limit →
+    ensures sum { (sizes : List ℕ) (a b : Value) → sum sizes ≤ total_limit →
         IfOk (value_sum a b) (λ v. relocated sizes v ≡ field_add (relocated sizes a) (relocated sizes b)) }
-    ensures difference { (sizes : List ℕ) (a b : Value) → sum sizes ≤ cell_limit →
+    ensures difference { (sizes : List ℕ) (a b : Value) → sum sizes ≤ total_limit →
         IfOk (value_difference a b) (λ v. relocated sizes v ≡ field_sub (relocated sizes a) (relocated sizes b)) }
     ensures product { (sizes : List ℕ) (a b : Value) →
         IfOk (value_product a b) (λ v. relocated sizes v ≡ field_mul (relocated sizes a) (relocated sizes b)) }
     ensures quotient { (sizes : List ℕ) (a b : Value) →
         IfOk (value_quotient a b) (λ v. field_mul (relocated sizes v) (relocated sizes b) ≡ relocated sizes a) }
-    ensures moved { (sizes : List ℕ) (p : Place) (by : ℤ) → sum sizes ≤ cell_limit →
+    ensures moved { (sizes : List ℕ) (p : Place) (by : ℤ) → sum sizes ≤ total_limit →
         IfSome (moved_place p by) (λ q. address sizes q ≡ field_add (address sizes p) (field_of_int by)) }
 
     // Two values are one exactly where they are the same number or the same pointer.

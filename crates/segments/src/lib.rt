@@ -9,8 +9,8 @@ mod shown;
 
 pub use arithmetic::{ArithFault, add_value, div_value, mul_value, shift, sub_value};
 use goldilocks::Felt;
-pub use laws::{address_laws, arithmetic_laws, memory_laws};
-pub use memory::{CELL_LIMIT, PutCause, PutFault, SEGMENT_LIMIT, Segments};
+pub use laws::{address_laws, arithmetic_laws, limit_laws, memory_laws, order_of_places};
+pub use memory::{PutCause, PutFault, SEGMENT_LIMIT, Segments, TOTAL_LIMIT};
 
 /// A place in the memory of a run: a segment, and how far from its beginning. Places are ordered by segment and then
 /// by offset, and print as `S:O`.
@@ -41,6 +41,3 @@ pub struct RelState {
     /// Where the frame of the current function lies.
     pub fp: Place,
 }
-
-#[cfg(test)]
-mod tests;

@@ -13,7 +13,7 @@ use std::alloc::{AllocError, Global};
 use std::marker::Model;
 
 /// The sizes of all segments add up to at most this.
-pub const CELL_LIMIT: u32 = 2_097_152;
+pub const TOTAL_LIMIT: u32 = 2_097_152;
 
 /// There are at most this many segments.
 pub const SEGMENT_LIMIT: u32 = 1_048_576;
@@ -25,7 +25,7 @@ pub enum PutCause {
     NoSegment,
     /// The place lies past the end of segment 0, which is fixed.
     Fixed,
-    /// The sizes of all segments would add up to more than [`CELL_LIMIT`].
+    /// The sizes of all segments would add up to more than [`TOTAL_LIMIT`].
     CellLimit,
     /// The cell holds another value, which stays.
     Conflict(Value),
@@ -38,6 +38,17 @@ pub enum PutFault {
     Refused(PutCause),
     /// There was no memory.
     Memory,
+}
+
+impl From<PutCause> for PutFault {
+    ghost use Rattle.std.specs.Prelude.{◌≡◌};
+    ghost use Rattle.segments.specs.declared.memory.PutFault.{PutFault};
+
+    ghost from_gives = { λ cause fault. fault ≡ PutFault.Refused cause };
+
+    fn from(cause: PutCause) -> PutFault {
+        PutFault::Refused(cause)
+    }
 }
 
 impl From<AllocError> for PutFault {
@@ -77,7 +88,7 @@ impl Model for Segments {
     ghost invariant = { λ s. IsMemory (kept_memory s.columns.items) × (s.total ≡ sum (kept_memory s.columns.items).sizes) };
 }
 
-#[tactic(auto, using(crate::proofs::Columns::kept), unfolding(crate::specs::Memory::has_segment, crate::specs::Memory::names_segment))]
+#[tactic(auto, using(crate::proofs::Columns::kept), unfolding(crate::specs::Memory::has_segment))]
 impl Segments {
     /// The memory at first: segment 0 holds the program's words, of which there are at most 2^18, and no other segment
     /// is there. The only error is want of memory.
@@ -126,7 +137,7 @@ impl Segments {
         self.columns[seg as usize].len() as u32
     }
 
-    /// The sizes of all segments together, at most [`CELL_LIMIT`].
+    /// The sizes of all segments together, at most [`TOTAL_LIMIT`].
     pub fn total(&self) -> u32
         ensures memory { IsMemory self.now }
         ensures total { result ≡ sum self.now.sizes }
@@ -165,11 +176,12 @@ impl Segments {
 
         // The first cause decides; memory may be short only where the segment grows.
         ensures accepted { IsOk result → put_cause self.old place value ≡ None }
-        ensures refused { (cause : PutCause) → (result ≡ Err (PutFault.Refused cause)) ↔ (put_cause self.old place value ≡ Some cause) }
+        ensures refused { (cause : PutCause) → (result ≡ Err (PutFault.Refused cause))
+            ↔ (put_cause self.old place value ≡ Some cause) }
         ensures in_place { place.off < size self.old place.seg → result ≢ Err PutFault.Memory }
     {
         if let Some(cause) = self.put_cause(place, value) {
-            return Err(PutFault::Refused(cause));
+            return Err(cause.into());
         }
         let column = &mut self.columns[place.seg as usize];
         let growth = (place.off as usize + 1).saturating_sub(column.len());
@@ -193,7 +205,7 @@ impl Segments {
         if place.seg == 0 {
             return Some(PutCause::Fixed);
         }
-        if place.off - size >= CELL_LIMIT - self.total() {
+        if place.off - size >= TOTAL_LIMIT - self.total() {
             return Some(PutCause::CellLimit);
         }
         None
@@ -215,6 +227,7 @@ impl Segments {
     }
 
     /// Whether the value's segment is there; a number has none.
+    #[tactic(auto, using(crate::proofs::Columns::kept), unfolding(crate::specs::Memory::names_segment))]
     fn names_segment(&self, value: Value) -> bool
         ensures named { result ≡ names_segment self.now value }
         ensures offset { HasOffset value }

@@ -1,5 +1,6 @@
 //! Places, values and faults as they are printed.
-use crate::{ArithFault, Place, PutCause, Value};
+use crate::{ArithFault, Place, PutCause, PutFault, Value};
+use std::error::Error;
 use std::fmt;
 
 impl fmt::Display for Place {
@@ -46,6 +47,8 @@ impl fmt::Display for ArithFault {
     }
 }
 
+impl Error for ArithFault {}
+
 impl fmt::Display for PutCause {
     ghost use Rattle.std.specs.Prelude.{Some};
     ghost use Rattle.segments.specs.Shown.{cause_text};
@@ -61,3 +64,21 @@ impl fmt::Display for PutCause {
         }
     }
 }
+
+impl Error for PutCause {}
+
+impl fmt::Display for PutFault {
+    ghost use Rattle.std.specs.Prelude.{Some};
+    ghost use Rattle.segments.specs.Shown.{put_text};
+
+    ghost output = { λ fault. Some (put_text fault) };
+
+    fn fmt<W: fmt::Write>(&self, f: &mut fmt::Formatter<W>) -> fmt::Result {
+        match self {
+            PutFault::Refused(cause) => write!(f, "{cause}"),
+            PutFault::Memory => write!(f, "Memory"),
+        }
+    }
+}
+
+impl Error for PutFault {}

@@ -126,44 +126,44 @@ no_gap f xs d up i j e lt has =
     ]
 
 -- a walk over ordered items: `next` is the number after those of the items before i, or the low end
-pub record Walked {X : Type 0} (place : X → ℕ) (xs : List X) (low i next : ℕ) : Type 0 where
+pub record Walked {X : Type 0} (key : X → ℕ) (xs : List X) (low i next : ℕ) : Type 0 where
   pub low_le : low ≤ next
-  pub before : (k : ℕ) (d : X) → k < i → place (get_or xs k d) < next
-  pub tight : (k : ℕ) (d : X) → i ≤ k → k < length xs → next ≤ place (get_or xs k d) + 1
+  pub before : (k : ℕ) (d : X) → k < i → key (get_or xs k d) < next
+  pub tight : (k : ℕ) (d : X) → i ≤ k → k < length xs → next ≤ key (get_or xs k d) + 1
 
-module _ {X : Type 0} (place : X → ℕ) (xs : List X) (low : ℕ) where
-  pub walked_start : All (λ x. low ≤ place x) xs → Walked place xs low 0 low
+module _ {X : Type 0} (key : X → ℕ) (xs : List X) (low : ℕ) where
+  pub walked_start : All (λ x. low ≤ key x) xs → Walked key xs low 0 low
   walked_start within = record {
     low_le = omega arith;
     before = λ k d lt. absurd (omega arith);
     tight = λ k d le lt. omega (arith, within k d lt);
   }
 
-  module _ (up : IsNonDecreasingBy place xs) where
-    pub walked_more : (i next : ℕ) (d : X) → i < length xs → Walked place xs low i next → Walked place xs low (i + 1) (place (get_or xs i d) + 1)
+  module _ (up : IsNonDecreasingBy key xs) where
+    pub walked_more : (i next : ℕ) (d : X) → i < length xs → Walked key xs low i next → Walked key xs low (i + 1) (key (get_or xs i d) + 1)
     walked_more i next d lt w = record {
       low_le = omega (arith, w.low_le, w.tight i d (omega arith) lt);
-      before = λ k e less. omega (arith, up k i e (omega arith) lt, ap place (get_or_default xs i d e lt));
-      tight = λ k e le less. omega (arith, up i k d (omega arith) less, ap place (get_or_default xs k d e less));
+      before = λ k e less. omega (arith, up k i e (omega arith) lt, ap key (get_or_default xs i d e lt));
+      tight = λ k e le less. omega (arith, up i k d (omega arith) less, ap key (get_or_default xs k d e less));
     }
 
     -- between two items, and behind the last
-    free_before : (i next : ℕ) (d : X) → i < length xs → Walked place xs low i next → (n : ℕ) → next ≤ n → n < place (get_or xs i d) → is_taken place xs n ≡ false
+    free_before : (i next : ℕ) (d : X) → i < length xs → Walked key xs low i next → (n : ℕ) → next ≤ n → n < key (get_or xs i d) → is_taken key xs n ≡ false
     free_before i next d lt w n lo hi =
-        none_at place n xs (λ k e less is.
+        none_at key n xs (λ k e less is.
         elim (cases_lt k i) [
           | inl earlier ↦ omega (arith, w.before k e earlier)
-          | inr later ↦ omega (arith, up i k e later less, ap place (get_or_default xs i d e lt))
+          | inr later ↦ omega (arith, up i k e later less, ap key (get_or_default xs i d e lt))
         ])
 
-    free_behind : (next : ℕ) → Walked place xs low (length xs) next → (n : ℕ) → next ≤ n → is_taken place xs n ≡ false
-    free_behind next w n lo = none_at place n xs (λ k e less is. omega (arith, w.before k e less))
+    free_behind : (next : ℕ) → Walked key xs low (length xs) next → (n : ℕ) → next ≤ n → is_taken key xs n ≡ false
+    free_behind next w n lo = none_at key n xs (λ k e less is. omega (arith, w.before k e less))
 
     -- what is absent so far, one item on
-    pub absent_step : (i next : ℕ) (d : X) → i < length xs → Walked place xs low i next → absent (is_taken place xs) low (place (get_or xs i d) + 1 - low) ≡ absent (is_taken place xs) low (next - low) ++ range_with_len next (place (get_or xs i d) - next)
+    pub absent_step : (i next : ℕ) (d : X) → i < length xs → Walked key xs low i next → absent (is_taken key xs) low (key (get_or xs i d) + 1 - low) ≡ absent (is_taken key xs) low (next - low) ++ range_with_len next (key (get_or xs i d) - next)
     absent_step i next d lt w =
-        let p : ℕ = place (get_or xs i d) in
-        let taken : ℕ → Bool = is_taken place xs in
+        let p : ℕ = key (get_or xs i d) in
+        let taken : ℕ → Bool = is_taken key xs in
         let last : next ≤ p + 1 = w.tight i d (omega arith) lt in
         elim (cases_lt p next) [
           | inl beyond ↦
@@ -178,16 +178,16 @@ module _ {X : Type 0} (place : X → ℕ) (xs : List X) (low : ℕ) where
               let more : p + 1 - low ≡ p - low + 1 = omega arith in
               let run : absent taken low (next - low + (p - next)) ≡ absent taken low (next - low) ++ range_with_len (low + (next - low)) (p - next) =
               absent_run taken low (next - low) (p - next) (λ n a b. free_before i next d lt w n (omega arith) (omega arith)) in
-              let at : taken p ≡ true = any_from place p xs i d lt refl in
+              let at : taken p ≡ true = any_from key p xs i d lt refl in
               ap (absent taken low) more
               ∙ (absent-more_taken taken low (p - low) (ap taken here ∙ at)
               ∙ (ap (absent taken low) (sym count) ∙ (run ∙ ap (λ n. absent taken low (next - low) ++ range_with_len n (p - next)) start)))
         ]
 
-    pub absent_end : (next high : ℕ) → next ≤ high + 1 → Walked place xs low (length xs) next → gaps_between place xs low high ≡ absent (is_taken place xs) low (next - low) ++ range_with_len next (high + 1 - next)
+    pub absent_end : (next high : ℕ) → next ≤ high + 1 → Walked key xs low (length xs) next → gaps_between key xs low high ≡ absent (is_taken key xs) low (next - low) ++ range_with_len next (high + 1 - next)
     unfolding gaps_between
     absent_end next high le w =
-        let taken : ℕ → Bool = is_taken place xs in
+        let taken : ℕ → Bool = is_taken key xs in
         let lo : low ≤ next = w.low_le in
         let start : low + (next - low) ≡ next = omega arith in
         let count : high + 1 - low ≡ next - low + (high + 1 - next) = omega arith in
@@ -196,38 +196,38 @@ module _ {X : Type 0} (place : X → ℕ) (xs : List X) (low : ℕ) where
         ap (absent taken low) count ∙ (run ∙ ap (λ n. absent taken low (next - low) ++ range_with_len n (high + 1 - next)) start)
 
 -- the same at an item that stands at p
-module _ {X : Type 0} (place : X → ℕ) (xs : List X) (low : ℕ) (up : IsNonDecreasingBy place xs) (i next p : ℕ) (d : X) (lt : i < length xs) (e : place (get_or xs i d) ≡ p) (w : Walked place xs low i next) where
-  pub walked_at : Walked place xs low (i + 1) (p + 1)
-  walked_at = let P : ℕ → Type 0 = λ n. Walked place xs low (i + 1) (n + 1) in subst P e (walked_more place xs low up i next d lt w)
+module _ {X : Type 0} (key : X → ℕ) (xs : List X) (low : ℕ) (up : IsNonDecreasingBy key xs) (i next p : ℕ) (d : X) (lt : i < length xs) (e : key (get_or xs i d) ≡ p) (w : Walked key xs low i next) where
+  pub walked_at : Walked key xs low (i + 1) (p + 1)
+  walked_at = let P : ℕ → Type 0 = λ n. Walked key xs low (i + 1) (n + 1) in subst P e (walked_more key xs low up i next d lt w)
 
-  pub absent_at : absent (is_taken place xs) low (p + 1 - low) ≡ absent (is_taken place xs) low (next - low) ++ range_with_len next (p - next)
+  pub absent_at : absent (is_taken key xs) low (p + 1 - low) ≡ absent (is_taken key xs) low (next - low) ++ range_with_len next (p - next)
   absent_at =
-      let P : ℕ → Type 0 = λ n. absent (is_taken place xs) low (n + 1 - low) ≡ absent (is_taken place xs) low (next - low) ++ range_with_len next (n - next) in
-      subst P e (absent_step place xs low up i next d lt w)
+      let P : ℕ → Type 0 = λ n. absent (is_taken key xs) low (n + 1 - low) ≡ absent (is_taken key xs) low (next - low) ++ range_with_len next (n - next) in
+      subst P e (absent_step key xs low up i next d lt w)
 
-  pub count_at : (count : ℕ) → count ≡ length (absent (is_taken place xs) low (next - low)) → count + (p - next) ≡ length (absent (is_taken place xs) low (p + 1 - low))
+  pub count_at : (count : ℕ) → count ≡ length (absent (is_taken key xs) low (next - low)) → count + (p - next) ≡ length (absent (is_taken key xs) low (p + 1 - low))
   count_at count h =
-      let whole : length (absent (is_taken place xs) low (p + 1 - low)) ≡ length (absent (is_taken place xs) low (next - low)) + length (range_with_len next (p - next)) = ap length absent_at ∙ length-append (absent (is_taken place xs) low (next - low)) (range_with_len next (p - next)) in
+      let whole : length (absent (is_taken key xs) low (p + 1 - low)) ≡ length (absent (is_taken key xs) low (next - low)) + length (range_with_len next (p - next)) = ap length absent_at ∙ length-append (absent (is_taken key xs) low (next - low)) (range_with_len next (p - next)) in
       omega (arith, length-range_with_len next (p - next))
 
 -- and behind the last
-module _ {X : Type 0} (place : X → ℕ) (xs : List X) (low high : ℕ) (up : IsNonDecreasingBy place xs) (i next : ℕ) (all : length xs ≤ i) (le : next ≤ high + 1) (w : Walked place xs low i next) where
+module _ {X : Type 0} (key : X → ℕ) (xs : List X) (low high : ℕ) (up : IsNonDecreasingBy key xs) (i next : ℕ) (all : length xs ≤ i) (le : next ≤ high + 1) (w : Walked key xs low i next) where
   -- a walk that has passed all items has passed each
-  walked_all : Walked place xs low (length xs) next
+  walked_all : Walked key xs low (length xs) next
   walked_all = record {
     low_le = w.low_le;
     before = λ k d lt. w.before k d (omega arith);
     tight = λ k d lo hi. absurd (omega arith);
   }
 
-  pub gaps_end : gaps_between place xs low high ≡ absent (is_taken place xs) low (next - low) ++ range_with_len next (high + 1 - next)
-  gaps_end = absent_end place xs low up next high le walked_all
+  pub gaps_end : gaps_between key xs low high ≡ absent (is_taken key xs) low (next - low) ++ range_with_len next (high + 1 - next)
+  gaps_end = absent_end key xs low up next high le walked_all
 
-  pub count_end : (count : ℕ) → count ≡ length (absent (is_taken place xs) low (next - low)) → count + (high + 1 - next) ≡ length (gaps_between place xs low high)
+  pub count_end : (count : ℕ) → count ≡ length (absent (is_taken key xs) low (next - low)) → count + (high + 1 - next) ≡ length (gaps_between key xs low high)
   count_end count h =
-      let whole : length (gaps_between place xs low high) ≡ length (absent (is_taken place xs) low (next - low)) + length (range_with_len next (high + 1 - next)) = ap length gaps_end ∙ length-append (absent (is_taken place xs) low (next - low)) (range_with_len next (high + 1 - next)) in
+      let whole : length (gaps_between key xs low high) ≡ length (absent (is_taken key xs) low (next - low)) + length (range_with_len next (high + 1 - next)) = ap length gaps_end ∙ length-append (absent (is_taken key xs) low (next - low)) (range_with_len next (high + 1 - next)) in
       omega (arith, length-range_with_len next (high + 1 - next))
 
-pub length-gaps-le : {X : Type 0} (place : X → ℕ) (xs : List X) (low high : ℕ) → length (gaps_between place xs low high) ≤ high + 1 - low
+pub length-gaps-le : {X : Type 0} (key : X → ℕ) (xs : List X) (low high : ℕ) → length (gaps_between key xs low high) ≤ high + 1 - low
 unfolding gaps_between
-length-gaps-le place xs low high = length-absent-le (is_taken place xs) low (high + 1 - low)
+length-gaps-le key xs low high = length-absent-le (is_taken key xs) low (high + 1 - low)

@@ -1,4 +1,4 @@
--- The numbers between ordered items at which none of them stands.
+-- The numbers between ordered items that are the key of none of them.
 use Rattle.std.specs.Prelude.{ℕ, ◌+◌, ◌-◌, ◌==◌, Bool, not, List, filter}
 use Rattle.std.specs.List.{range_with_len, list_any}
 
@@ -6,10 +6,10 @@ use Rattle.std.specs.List.{range_with_len, list_any}
 unfoldable pub absent : (ℕ → Bool) → ℕ → ℕ → List ℕ
 absent taken low count = filter (λ n. not (taken n)) (range_with_len low count)
 
--- Whether one of the items stands at a number. Own.
+-- Whether a number is the key of one of the items. Own.
 abbrev pub is_taken : {X : Type 0} → (X → ℕ) → List X → ℕ → Bool
-is_taken place items n = list_any (λ x. place x == n) items
+is_taken key items n = list_any (λ x. key x == n) items
 
--- The numbers from `low` to `high` at which none of the items stands, ascending. Own.
+-- The numbers from `low` to `high` that are no key of the items, ascending. Own.
 unfoldable pub gaps_between : {X : Type 0} → (X → ℕ) → List X → ℕ → ℕ → List ℕ
-gaps_between place items low high = absent (is_taken place items) low (high + 1 - low)
+gaps_between key items low high = absent (is_taken key items) low (high + 1 - low)

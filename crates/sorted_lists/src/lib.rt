@@ -9,11 +9,12 @@ ghost use Rattle.sorted_lists.specs.Order.{in_order};
 ghost use Rattle.sorted_lists.specs.Difference.{list_difference};
 ghost use Rattle.sorted_lists.specs.Climbing.{climb};
 
-pub mod laws;
-mod places;
+mod keys;
+mod laws;
 
 use goldilocks::Felt;
-pub use places::{Place, gap_count, gaps};
+pub use keys::{Keyed, gap_count, gaps};
+pub use laws::{climb_laws, difference_laws, in_order_laws, neighbour_laws};
 use std::alloc::{AllocError, Global};
 
 /// Whether `to` is `from` or the number after it, modulo p.
@@ -65,6 +66,3 @@ pub fn order_difference<T: Ord + Copy>(
     ordered.sort_unstable();
     Ok(first_difference(&left, &ordered))
 }
-
-#[cfg(test)]
-mod tests;

@@ -15,7 +15,6 @@ use Rattle.casm_word.specs.declared.State.{State}
 use Rattle.casm_word.specs.Transition.{Memory, Registers, registers}
 use Rattle.casm_word.specs.Run.{steps}
 use Rattle.casm_word.proofs.Runs.{length-steps}
-use Rattle.trace_files.specs.MemoryFile.{Cell, memory_of, as_cell, as_cells}
 use Rattle.trace_files.specs.TraceFile.{IsState}
 use Rattle.program_file.specs.Listing.{Listing}
 use Rattle.public_input.specs.Statement.{Statement}
@@ -26,10 +25,9 @@ use Rattle.range_columns.specs.Equations.{felt_cmp}
 use Rattle.range_columns.specs.Filling.{absent_values}
 use Rattle.range_columns.specs.declared.RangeRow.{RangeRow}
 use Rattle.table_file.specs.Tables.{Contents}
-use Rattle.constraint_checker.specs.Lists.{accesses, range_values}
 use Rattle.table_builder.specs.declared.faults.BuildFault.{BuildFault}
 use Rattle.table_builder.specs.Rows.{row_at, as_row, rows_of, range_rows_of, last_of, as_state}
-use Rattle.table_builder.specs.Columns.{unsorted, reads, small_values, free_addresses, cells_at, tables_of}
+use Rattle.table_builder.specs.Columns.{reads_of, values_of, reads, small_values, free_addresses, cells_at, tables_of}
 use Rattle.table_builder.specs.Findings.{Finding, finding_of}
 use Rattle.table_builder.specs.Parts.{AreMemoryColumns, AreSmallColumns}
 use Rattle.table_builder.proofs.Kept.{state_kept}
@@ -48,42 +46,26 @@ pub registers_low : (states : List State) → All IsState (map registers states)
 unfolding registers
 registers_low states = All-map IsState registers states (λ k d within. record { pc = (get_or states k d).pc.in_field; ap = (get_or states k d).ap.in_field; fp = (get_or states k d).fp.in_field })
 
-value_low : (x : Pair) (here : Bool) (later : Option Cell) (v : ℕ) → (option_map (λ (c : Cell). c.value) later ≡ Some v → v < prime) → option_map (λ (c : Cell). c.value) (if here then Some (as_cell x) else later) ≡ Some v → v < prime
-value_low x true later v behind is = let same : x.value.number ≡ v = cc in subst (λ n. n < prime) same x.value.in_field
-value_low x false later v behind is = behind is
-
-pub values_low : (cells : List Pair) (a v : ℕ) → memory_of (as_cells cells) a ≡ Some v → v < prime
-unfolding memory_of
-values_low [] a v e = cc
-values_low (x ∷ cells) a v e = value_low x (x.addr.number == a) (find (λ c. c.addr == a) (as_cells cells)) v (values_low cells a v) e
-
--- ---- before anything is sorted
+-- ---- the last state
 
 pub last_built : (states : List State) (s : State) → 2 ≤ length states → s ≡ get_or states (length states - 1) s → s ≡ as_state (last_of (map registers states))
 last_built states s some is = sym (ap as_state (last_state states some s is) ∙ state_kept s)
 
-pub unsorted_is : (public : Statement) (m : Memory) (states : List Registers) (t : Contents) (rows : List Row) (last : State) (range : List RangeRow) → t ≡ record { rows = rows; last = last; range = range; fillers = []; pairs = []; range_fillers = []; sorted_range = [] } → rows ≡ rows_of m states → last ≡ as_state (last_of states) → range ≡ range_rows_of public m → t ≡ unsorted public m states
-unfolding unsorted
-unsorted_is public m states t rows last range is rows_are last_is range_are =
-    is ∙ (λ i. record { rows = rows_are i; last = last_is i; range = range_are i; fillers = []; pairs = []; range_fillers = []; sorted_range = [] })
-
 -- ---- with the columns
 
-module _ (program : Listing) (public : Statement) (m : Memory) (states : List Registers) (t : Contents) (is : t ≡ unsorted public m states) where
-  pub reads_are : accesses program public t ≡ reads program public m states
+module _ (program : Listing) (public : Statement) (m : Memory) (states : List Registers) (rows : List Row) (last : State) (range : List RangeRow)
+    (rows_are : rows ≡ rows_of m states) (last_is : last ≡ as_state (last_of states)) (range_are : range ≡ range_rows_of public m) where
+  pub reads_are : reads_of program public rows range ≡ reads program public m states
   unfolding reads
-  reads_are = ap (accesses program public) is
+  reads_are = ap₂ (reads_of program public) rows_are range_are
 
-  pub small_are : range_values t ≡ small_values public m states
+  pub small_are : values_of rows range ≡ small_values public m states
   unfolding small_values
-  small_are = ap range_values is
+  small_are = ap₂ values_of rows_are range_are
 
-  pub tables_are : (fill pairs : List Pair) (absent sorted : List Felt) → AreMemoryColumns m (accesses program public t) fill pairs → AreSmallColumns public (range_values t) absent sorted → tables_of program public m states ≡ record { rows = t.rows; last = t.last; range = t.range; fillers = fill; pairs = pairs; range_fillers = absent; sorted_range = sorted }
-  unfolding tables_of reads small_values unsorted
+  pub tables_are : (fill pairs : List Pair) (absent sorted : List Felt) → AreMemoryColumns m (reads_of program public rows range) fill pairs → AreSmallColumns public (values_of rows range) absent sorted → tables_of program public m states ≡ record { rows = rows; last = last; range = range; fillers = fill; pairs = pairs; range_fillers = absent; sorted_range = sorted }
+  unfolding tables_of
   tables_are fill pairs absent sorted memory small =
-      let rows_same : rows_of m states ≡ t.rows = sym (ap (λ (x : Contents). x.rows) is) in
-      let last_same : as_state (last_of states) ≡ t.last = sym (ap (λ (x : Contents). x.last) is) in
-      let range_same : range_rows_of public m ≡ t.range = sym (ap (λ (x : Contents). x.range) is) in
       let fill_same : cells_at m (free_addresses (reads program public m states)) ≡ fill = sym (memory.fillers ∙ ap (λ xs. cells_at m (free_addresses xs)) reads_are) in
       let pairs_same : in_order pair_cmp (reads program public m states ++ cells_at m (free_addresses (reads program public m states))) ≡ pairs =
       ap₂ (λ xs ys. in_order pair_cmp (xs ++ ys)) (sym reads_are) fill_same ∙ sym memory.in_turn in
@@ -91,6 +73,9 @@ module _ (program : Listing) (public : Statement) (m : Memory) (states : List Re
       sym (small.fillers ∙ ap (λ vs. map felt (absent_values vs public.rc_min public.rc_max)) small_are) in
       let sorted_same : in_order felt_cmp (small_values public m states ++ map felt (absent_values (small_values public m states) public.rc_min public.rc_max)) ≡ sorted =
       ap₂ (λ xs ys. in_order felt_cmp (xs ++ ys)) (sym small_are) absent_same ∙ sym small.in_turn in
+      let rows_same = sym rows_are in
+      let last_same = sym last_is in
+      let range_same = sym range_are in
       λ i. record {
         rows = rows_same i;
         last = last_same i;

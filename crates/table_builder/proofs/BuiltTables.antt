@@ -14,11 +14,14 @@ use Rattle.range_columns.specs.Limbs.{IsSplitOf}
 use Rattle.range_columns.specs.Equations.{felt_cmp}
 use Rattle.program_file.specs.Listing.{Listing}
 use Rattle.public_input.specs.Statement.{Statement}
-use Rattle.public_input.specs.Valid.{KeepsLimits, addresses}
+use Rattle.public_input.specs.Valid.{KeepsLimits}
+use Rattle.goldilocks.specs.Cells.{addresses}
 use Rattle.table_file.specs.Tables.{Contents}
-use Rattle.constraint_checker.specs.Lists.{program_cells, range_cells, accesses, range_values}
+use Rattle.access_lists.specs.Accesses.{program_cells, range_cells, accesses as accesses_of}
+use Rattle.access_lists.specs.SmallValues.{small_values as small_values_of}
+use Rattle.constraint_checker.specs.Lists.{accesses, range_values}
 use Rattle.table_builder.specs.Rows.{first_of, no_state, as_row, rows_of}
-use Rattle.table_builder.specs.Columns.{least, greatest, unsorted, reads, small_values, tables_of}
+use Rattle.table_builder.specs.Columns.{least_of, greatest_of, reads, small_values, tables_of}
 use Rattle.table_builder.specs.Findings.{first_found, findings}
 use Rattle.table_builder.specs.Building.{building}
 use Rattle.table_builder.specs.TablesOf.{HasFieldValues, AreInField, AreTablesOf}
@@ -45,12 +48,12 @@ registers_are r pc apc fp p q s = λ i. record { pc = p i; ap = q i; fp = s i }
 
 module _ (program : Listing) (public : Statement) (m : Memory) (states : List Registers) (low : HasFieldValues m) (small : AreInField states) (limits : KeepsLimits public) where
   pub are_tables : Answered program public m states → AreTablesOf program public m states (tables_of program public m states)
-  unfolding tables_of Holds reads small_values unsorted accesses range_cells range_values rows_of
+  unfolding tables_of Holds reads small_values accesses_of range_cells small_values_of rows_of
   are_tables answers =
       let ends = answers.ends in
       let some : 2 ≤ length states = omega (arith, ends.steps, limits.some_step) in
       let run = legal program public m states low small some answers in
-      let cells = all_both (Has m) (program_cells program) public.cells answers.cells in
+      let cells = all_both (Has m) (program_cells program.words) public.cells answers.cells in
       let tables = tables_of program public m states in
       let accessed = reads program public m states in
       record {
@@ -63,7 +66,7 @@ module _ (program : Listing) (public : Statement) (m : Memory) (states : List Re
         last_ap = sym ends.ap_last;
         has_program = cells.0;
         has_public_cells = cells.1;
-        has_range_cells = range_held m public tables refl answers.range;
+        has_range_cells = range_held m public tables.range refl answers.range;
         row_count = omega (arith, row_count program public m states low small some answers, ends.steps, some);
         rows =
             All-from_recursion (λ at. IsRowOf m at.0.0 (columns at.1)) (zip (steps states) (rows_of m states))
@@ -73,8 +76,8 @@ module _ (program : Listing) (public : Statement) (m : Memory) (states : List Re
         range = All-weaker IsCut (λ row. (row.value.number < 2 ^ 48) × IsSplitOf row.value.number row) (λ row is. (is.below, is.split)) tables.range (all_cut public m answers.range);
         small_values = small_within (small_values public m states) public.rc_min public.rc_max answers.least answers.greatest;
         fillers = record {
-          least = least (addresses accessed);
-          greatest = greatest (addresses accessed);
+          least = least_of (addresses accessed);
+          greatest = greatest_of (addresses accessed);
           spans = cells_span accessed (some_reads program public m states low small some answers);
           fillers = fillers_are m low accessed (some_reads program public m states low small some answers);
         };

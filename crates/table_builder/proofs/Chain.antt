@@ -1,7 +1,7 @@
 -- What is found first in six groups of questions, and what is built for it.
 use Rattle.std.proofs.Common.{◌≡◌, List, [], ◌∷◌, ◌++◌, Option, Some, None, Ok, Err, refl, ap}
 use Rattle.casm_word.specs.Transition.{Memory, Registers}
-use Rattle.cpu_rows.specs.Columns.{numbers}
+use Rattle.goldilocks.specs.Felts.{numbers}
 use Rattle.program_file.specs.Listing.{Listing}
 use Rattle.public_input.specs.Statement.{Statement}
 use Rattle.table_builder.specs.Columns.{reads, small_values, tables_of}

@@ -8,10 +8,10 @@ use Rattle.goldilocks.specs.Felts.{felt}
 use Rattle.casm_word.specs.Transition.{Memory}
 use Rattle.cpu_rows.specs.declared.Row.{Row}
 use Rattle.range_columns.specs.declared.RangeRow.{RangeRow}
-use Rattle.program_file.specs.Listing.{Listing}
 use Rattle.public_input.specs.Statement.{Statement}
-use Rattle.table_file.specs.Tables.{Contents}
-use Rattle.constraint_checker.specs.Lists.{cell, cells_from, row_cells, range_cells, program_cells, accesses, row_offsets, limbs, range_values}
+use Rattle.access_lists.specs.Accesses.{row_cells, range_cells, program_cells, AccessParts, accesses}
+use Rattle.access_lists.specs.SmallValues.{row_offsets, limbs, SmallParts, small_values}
+use Rattle.goldilocks.specs.Cells.{cell, cells_from}
 use Rattle.table_builder.specs.Rows.{range_address, limb_row, range_rows_of}
 
 -- pieces of one length
@@ -39,34 +39,34 @@ length-limbs : (rows : List RangeRow) → length (flat_map limbs rows) ≡ 3 * l
 unfolding limbs
 length-limbs rows = length-pieces limbs 3 rows (λ r. refl)
 
-pub length-accesses : (program : Listing) (public : Statement) (tables : Contents) → length (accesses program public tables) ≡ 4 * length tables.rows + length tables.range + length program.words + length public.cells + length tables.fillers
+pub length-accesses : (p : AccessParts) → length (accesses p) ≡ 4 * length p.rows + length p.range_rows + length p.words + length p.public_cells + length p.fillers
 unfolding accesses range_cells program_cells
-length-accesses program public tables =
-    let rows = flat_map row_cells tables.rows in
-    let values : List Felt = map (λ r. r.value) tables.range in
-    let range = cells_from public.range_begin.number values in
-    let words = cells_from 1 program.words in
+length-accesses p =
+    let rows = flat_map row_cells p.rows in
+    let values : List Felt = map (λ r. r.value) p.range_rows in
+    let range = cells_from p.range_begin values in
+    let words = cells_from 1 p.words in
     omega (
       arith,
-      length-append (rows ++ range ++ words ++ public.cells) tables.fillers,
-      length-append (rows ++ range ++ words) public.cells,
+      length-append (rows ++ range ++ words ++ p.public_cells) p.fillers,
+      length-append (rows ++ range ++ words) p.public_cells,
       length-append (rows ++ range) words,
       length-append rows range,
-      length-row_cells tables.rows,
-      length-cells_from public.range_begin.number values,
-      length-map tables.range (λ (r : RangeRow). r.value),
-      length-cells_from 1 program.words,
+      length-row_cells p.rows,
+      length-cells_from p.range_begin values,
+      length-map p.range_rows (λ (r : RangeRow). r.value),
+      length-cells_from 1 p.words,
     )
 
-pub length-range_values : (tables : Contents) → length (range_values tables) ≡ 3 * length tables.rows + 3 * length tables.range + length tables.range_fillers
-unfolding range_values
-length-range_values tables =
-    let offsets = flat_map row_offsets tables.rows in
-    let digits = flat_map limbs tables.range in
+pub length-small_values : (p : SmallParts) → length (small_values p) ≡ 3 * length p.rows + 3 * length p.range_rows + length p.fillers
+unfolding small_values
+length-small_values p =
+    let offsets = flat_map row_offsets p.rows in
+    let digits = flat_map limbs p.range_rows in
     omega (
       arith,
-      length-append (offsets ++ digits) tables.range_fillers,
+      length-append (offsets ++ digits) p.fillers,
       length-append offsets digits,
-      length-row_offsets tables.rows,
-      length-limbs tables.range,
+      length-row_offsets p.rows,
+      length-limbs p.range_rows,
     )

@@ -9,9 +9,8 @@ use Rattle.std.proofs.lemmas.List.FromFn.{length-range_with_len, get_or-range_wi
 use Rattle.goldilocks.specs.Field.{prime}
 use Rattle.goldilocks.specs.declared.Felt.{Felt}
 use Rattle.goldilocks.specs.declared.Pair.{Pair}
-use Rattle.goldilocks.specs.Felts.{felt}
+use Rattle.goldilocks.specs.Felts.{felt, numbers}
 use Rattle.casm_word.specs.Transition.{Memory}
-use Rattle.cpu_rows.specs.Columns.{numbers}
 use Rattle.sorted_lists.specs.Order.{in_order}
 use Rattle.sorted_lists.specs.Gaps.{is_taken, gaps_between, absent}
 use Rattle.sorted_lists.proofs.Absent.{length-gaps-le}
@@ -22,9 +21,8 @@ use Rattle.memory_columns.proofs.Fillings.{no_fault as no_memory_fault}
 use Rattle.range_columns.specs.Equations.{felt_cmp, first_range_fault, IsWithin}
 use Rattle.range_columns.specs.Filling.{absent_values}
 use Rattle.range_columns.proofs.Fillings.{no_fault as no_range_fault}
-use Rattle.public_input.specs.Valid.{addresses}
-use Rattle.constraint_checker.specs.Lists.{cell}
-use Rattle.table_builder.specs.Columns.{least, greatest, free_addresses, cells_at}
+use Rattle.goldilocks.specs.Cells.{cell, addresses}
+use Rattle.table_builder.specs.Columns.{least_of, greatest_of, free_addresses, cells_at}
 use Rattle.table_builder.proofs.LeastGreatest.{any-here, any-later, least-reached, least-bounds, greatest-reached, greatest-bounds}
 use Rattle.table_builder.proofs.AsRows.{numbers-felt}
 
@@ -55,16 +53,16 @@ all_of-map f P xs all k d within =
 
 -- ---- the memory
 
-pub cells_span : (cells : List Pair) → 0 < length cells → Spans cells (least (addresses cells)) (greatest (addresses cells))
+pub cells_span : (cells : List Pair) → 0 < length cells → Spans cells (least_of (addresses cells)) (greatest_of (addresses cells))
 cells_span cells some =
     let address : Pair → ℕ = λ x. x.addr.number in
     let ns : List ℕ = addresses cells in
     let some_number : 0 < length ns = omega (arith, length-map cells address) in
-    let low = all_of-map address (λ n. least ns ≤ n) cells (least-bounds ns) in
-    let high = all_of-map address (λ n. n ≤ greatest ns) cells (greatest-bounds ns) in
+    let low = all_of-map address (λ n. least_of ns ≤ n) cells (least-bounds ns) in
+    let high = all_of-map address (λ n. n ≤ greatest_of ns) cells (greatest-bounds ns) in
     record {
-      has_least = any_of-map address (λ n. n ≡ least ns) cells (least-reached ns some_number);
-      has_greatest = any_of-map address (λ n. n ≡ greatest ns) cells (greatest-reached ns some_number);
+      has_least = any_of-map address (λ n. n ≡ least_of ns) cells (least-reached ns some_number);
+      has_greatest = any_of-map address (λ n. n ≡ greatest_of ns) cells (greatest-reached ns some_number);
       within = λ k d within. (low k d within, high k d within);
     }
 
@@ -94,17 +92,17 @@ module _ (m : Memory) (low : (a v : ℕ) → m a ≡ Some v → v < prime) (cell
   abbrev fillers : List Pair
   fillers = cells_at m (free_addresses cells)
 
-  pub fillers_are : map numbers_of fillers ≡ map (filler_at m) (unaccessed cells (least (addresses cells)) (greatest (addresses cells)))
+  pub fillers_are : map numbers_of fillers ≡ map (filler_at m) (unaccessed cells (least_of (addresses cells)) (greatest_of (addresses cells)))
   unfolding free_addresses unaccessed
   fillers_are =
-      let high : greatest (addresses cells) < prime = spans_below cells (least (addresses cells)) (greatest (addresses cells)) (cells_span cells some) in
+      let high : greatest_of (addresses cells) < prime = spans_below cells (least_of (addresses cells)) (greatest_of (addresses cells)) (cells_span cells some) in
       numbers_of-cells m low (free_addresses cells)
-      (All-weaker (λ n. (least (addresses cells) ≤ n) × (n ≤ greatest (addresses cells))) (λ n. n < prime) (λ n both. let b = both.1 in omega arith) (free_addresses cells)
-      (gaps_within (λ x. x.addr.number) cells (least (addresses cells)) (greatest (addresses cells))))
+      (All-weaker (λ n. (least_of (addresses cells) ≤ n) × (n ≤ greatest_of (addresses cells))) (λ n. n < prime) (λ n both. let b = both.1 in omega arith) (free_addresses cells)
+      (gaps_within (λ x. x.addr.number) cells (least_of (addresses cells)) (greatest_of (addresses cells))))
 
   pub memory_filled : OneValueEach cells → first_memory_fault (cells ++ fillers) (in_order pair_cmp (cells ++ fillers)) ≡ None
   memory_filled one =
-      no_memory_fault m cells fillers (least (addresses cells)) (greatest (addresses cells)) fillers_are (cells_span cells some) one (in_order pair_cmp (cells ++ fillers)) refl
+      no_memory_fault m cells fillers (least_of (addresses cells)) (greatest_of (addresses cells)) fillers_are (cells_span cells some) one (in_order pair_cmp (cells ++ fillers)) refl
 
   pub length-fillers : length fillers ≡ length (free_addresses cells)
   unfolding cells_at
@@ -113,13 +111,13 @@ module _ (m : Memory) (low : (a v : ℕ) → m a ≡ Some v → v < prime) (cell
 -- ---- small values
 
 -- all lie within the limits where the least and the greatest do
-pub small_within : (values : List Felt) (low high : ℕ) → low ≤ least (numbers values) → greatest (numbers values) ≤ high → All (IsWithin low high) values
+pub small_within : (values : List Felt) (low high : ℕ) → low ≤ least_of (numbers values) → greatest_of (numbers values) ≤ high → All (IsWithin low high) values
 unfolding IsWithin
 small_within values low high above below k d within =
     let number : Felt → ℕ = λ x. x.number in
     let ns : List ℕ = numbers values in
-    let a = all_of-map number (λ n. least ns ≤ n) values (least-bounds ns) k d within in
-    let b = all_of-map number (λ n. n ≤ greatest ns) values (greatest-bounds ns) k d within in
+    let a = all_of-map number (λ n. least_of ns ≤ n) values (least-bounds ns) k d within in
+    let b = all_of-map number (λ n. n ≤ greatest_of ns) values (greatest-bounds ns) k d within in
     (omega (arith, a), omega (arith, b))
 
 module _ (values : List Felt) (low high : ℕ) (narrow : high < 2 ^ 16) where

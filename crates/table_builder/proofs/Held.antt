@@ -19,10 +19,10 @@ use Rattle.range_columns.specs.declared.RangeRow.{RangeRow}
 use Rattle.program_file.specs.Listing.{Listing}
 use Rattle.public_input.specs.Statement.{Statement}
 use Rattle.trace_files.specs.TraceFile.{IsState}
-use Rattle.table_file.specs.Tables.{Contents}
-use Rattle.constraint_checker.specs.Lists.{cell, cells_from, row_cells, range_cells, program_cells, accesses}
+use Rattle.access_lists.specs.Accesses.{row_cells, range_cells, program_cells, accesses as accesses_of}
+use Rattle.goldilocks.specs.Cells.{cell, cells_from}
 use Rattle.table_builder.specs.Rows.{as_row, rows_of, range_address, limb_row, range_rows_of}
-use Rattle.table_builder.specs.Columns.{unsorted, reads}
+use Rattle.table_builder.specs.Columns.{reads}
 use Rattle.table_builder.proofs.AsRows.{columns-as_row}
 use Rattle.table_builder.proofs.RowsOfRun.{IsTold, columns_of, run_told}
 use Rattle.table_builder.proofs.NothingFound.{Has, HasRange, Answered}
@@ -75,9 +75,9 @@ module _ (m : Memory) (public : Statement) where
       (kept_number (m (range_address public k)) has.0 has.1 has.2)
       (subst (λ a. All (Has m) (cells_from a values)) next behind)
 
-  pub range_held : (tables : Contents) → tables.range ≡ range_rows_of public m → All (HasRange public m) (range_with_len 0 public.range_count) → All (Has m) (range_cells public tables)
+  pub range_held : (range : List RangeRow) → range ≡ range_rows_of public m → All (HasRange public m) (range_with_len 0 public.range_count) → All (Has m) (range_cells public.range_begin.number range)
   unfolding range_cells range_rows_of
-  range_held tables is all =
+  range_held range is all =
       let begin : public.range_begin.number + 0 ≡ public.range_begin.number = omega arith in
       subst (λ rows. All (Has m) (cells_from public.range_begin.number (map (λ r. r.value) rows))) (sym is)
       (subst (λ a. All (Has m) (cells_from a (map (λ r. r.value) (map ranged (range_with_len 0 public.range_count))))) begin
@@ -103,17 +103,18 @@ one_value-held m cells all x y at_x at_y same =
 
 module _ (program : Listing) (public : Statement) (m : Memory) (states : List Registers) (low : (a v : ℕ) → m a ≡ Some v → v < prime) (small : All IsState states) (run : LegalRun m states) (answers : Answered program public m states) where
   pub reads_held : Holds m (reads program public m states)
-  unfolding Holds reads accesses unsorted rows_of
+  unfolding Holds reads accesses_of rows_of
   reads_held =
       let R = Has m in
-      let given = all_both R (program_cells program) public.cells answers.cells in
-      let tables : Contents = unsorted public m states in
-      All-append R (flat_map row_cells tables.rows ++ range_cells public tables ++ program_cells program ++ public.cells) []
-      (All-append R (flat_map row_cells tables.rows ++ range_cells public tables ++ program_cells program) public.cells
-      (All-append R (flat_map row_cells tables.rows ++ range_cells public tables) (program_cells program)
-      (All-append R (flat_map row_cells tables.rows) (range_cells public tables)
-      (All-pieces R row_cells tables.rows (rows_held m (steps states) (columns_of m (steps states)) (run_told m states low small run)))
-      (range_held m public tables refl answers.range))
+      let given = all_both R (program_cells program.words) public.cells answers.cells in
+      let rows : List Row = rows_of m states in
+      let range : List RangeRow = range_rows_of public m in
+      All-append R (flat_map row_cells rows ++ range_cells public.range_begin.number range ++ program_cells program.words ++ public.cells) []
+      (All-append R (flat_map row_cells rows ++ range_cells public.range_begin.number range ++ program_cells program.words) public.cells
+      (All-append R (flat_map row_cells rows ++ range_cells public.range_begin.number range) (program_cells program.words)
+      (All-append R (flat_map row_cells rows) (range_cells public.range_begin.number range)
+      (All-pieces R row_cells rows (rows_held m (steps states) (columns_of m (steps states)) (run_told m states low small run)))
+      (range_held m public range refl answers.range))
       given.0)
       given.1)
       (λ k d within. absurd (omega arith))

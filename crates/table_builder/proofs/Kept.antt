@@ -11,7 +11,7 @@ use Rattle.cpu_rows.specs.Columns.{columns}
 use Rattle.memory_columns.specs.Filling.{numbers_of}
 use Rattle.range_columns.specs.declared.RangeRow.{RangeRow}
 use Rattle.range_columns.specs.Limbs.{limb_at, IsSplitOf}
-use Rattle.constraint_checker.specs.Lists.{cell}
+use Rattle.goldilocks.specs.Cells.{cell}
 use Rattle.table_builder.specs.Rows.{as_state, as_row, limb_row}
 
 pub felts_kept : (xs : List Felt) → map felt (map (λ x. x.number) xs) ≡ xs

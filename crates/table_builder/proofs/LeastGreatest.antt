@@ -3,7 +3,7 @@ use Rattle.std.proofs.Common.{◌≡◌, ℕ, suc, ◌<◌, ◌≤◌, min, max,
 use Rattle.std.specs.Prelude.{All, Any}
 use Rattle.std.proofs.lemmas.Bool.{cases_lt}
 use Rattle.std.proofs.lemmas.List.Elements.{All-cons}
-use Rattle.table_builder.specs.Columns.{least, greatest}
+use Rattle.table_builder.specs.Columns.{least_of, greatest_of}
 
 -- ---- some item of a list
 
@@ -55,23 +55,23 @@ fold_min-bounds a (x ∷ xs) =
     let behind = fold_min-bounds (min a x) xs in
     (omega (arith, behind.0), All-cons (λ y. fold min (min a x) xs ≤ y) x xs (omega (arith, behind.0)) behind.1)
 
-pub least-reached : (xs : List ℕ) → 0 < length xs → Any (λ x. x ≡ least xs) xs
-unfolding least
+pub least-reached : (xs : List ℕ) → 0 < length xs → Any (λ x. x ≡ least_of xs) xs
+unfolding least_of
 least-reached [] some = absurd (omega arith)
 least-reached (x ∷ xs) some = fold-reached min min-picks x xs
 
-pub least-bounds : (xs : List ℕ) → All (λ x. least xs ≤ x) xs
-unfolding least
+pub least-bounds : (xs : List ℕ) → All (λ x. least_of xs ≤ x) xs
+unfolding least_of
 least-bounds [] = λ k d within. absurd (omega arith)
 least-bounds (x ∷ xs) =
     let both = fold_min-bounds x xs in
     All-cons (λ y. fold min x xs ≤ y) x xs both.0 both.1
 
 -- a bound of all that one of them is
-pub least-is : (xs : List ℕ) (l : ℕ) → Any (λ x. x ≡ l) xs → All (λ x. l ≤ x) xs → least xs ≡ l
+pub least-is : (xs : List ℕ) (l : ℕ) → Any (λ x. x ≡ l) xs → All (λ x. l ≤ x) xs → least_of xs ≡ l
 least-is xs l reached bounds =
-    let there = any-and_all (λ x. x ≡ l) (λ x. least xs ≤ x) xs reached (least-bounds xs) in
-    let here = any-and_all (λ x. x ≡ least xs) (λ x. l ≤ x) xs (least-reached xs (any-some (λ x. x ≡ l) xs reached)) bounds in
+    let there = any-and_all (λ x. x ≡ l) (λ x. least_of xs ≤ x) xs reached (least-bounds xs) in
+    let here = any-and_all (λ x. x ≡ least_of xs) (λ x. l ≤ x) xs (least-reached xs (any-some (λ x. x ≡ l) xs reached)) bounds in
     omega (arith, there.1, there.2, here.1, here.2)
 
 -- ---- the greatest
@@ -82,20 +82,20 @@ fold_max-bounds a (x ∷ xs) =
     let behind = fold_max-bounds (max a x) xs in
     (omega (arith, behind.0), All-cons (λ y. y ≤ fold max (max a x) xs) x xs (omega (arith, behind.0)) behind.1)
 
-pub greatest-reached : (xs : List ℕ) → 0 < length xs → Any (λ x. x ≡ greatest xs) xs
-unfolding greatest
+pub greatest-reached : (xs : List ℕ) → 0 < length xs → Any (λ x. x ≡ greatest_of xs) xs
+unfolding greatest_of
 greatest-reached [] some = absurd (omega arith)
 greatest-reached (x ∷ xs) some = fold-reached max max-picks x xs
 
-pub greatest-bounds : (xs : List ℕ) → All (λ x. x ≤ greatest xs) xs
-unfolding greatest
+pub greatest-bounds : (xs : List ℕ) → All (λ x. x ≤ greatest_of xs) xs
+unfolding greatest_of
 greatest-bounds [] = λ k d within. absurd (omega arith)
 greatest-bounds (x ∷ xs) =
     let both = fold_max-bounds x xs in
     All-cons (λ y. y ≤ fold max x xs) x xs both.0 both.1
 
-pub greatest-is : (xs : List ℕ) (l : ℕ) → Any (λ x. x ≡ l) xs → All (λ x. x ≤ l) xs → greatest xs ≡ l
+pub greatest-is : (xs : List ℕ) (l : ℕ) → Any (λ x. x ≡ l) xs → All (λ x. x ≤ l) xs → greatest_of xs ≡ l
 greatest-is xs l reached bounds =
-    let there = any-and_all (λ x. x ≡ l) (λ x. x ≤ greatest xs) xs reached (greatest-bounds xs) in
-    let here = any-and_all (λ x. x ≡ greatest xs) (λ x. x ≤ l) xs (greatest-reached xs (any-some (λ x. x ≡ l) xs reached)) bounds in
+    let there = any-and_all (λ x. x ≡ l) (λ x. x ≤ greatest_of xs) xs reached (greatest-bounds xs) in
+    let here = any-and_all (λ x. x ≡ greatest_of xs) (λ x. x ≤ l) xs (greatest-reached xs (any-some (λ x. x ≡ l) xs reached)) bounds in
     omega (arith, there.1, there.2, here.1, here.2)

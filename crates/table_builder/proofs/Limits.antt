@@ -5,10 +5,10 @@ use Rattle.std.proofs.lemmas.Bool.{lt-ltb, le-ltb}
 use Rattle.std.proofs.lemmas.List.Elements.{All-map}
 use Rattle.goldilocks.specs.Field.{prime}
 use Rattle.goldilocks.specs.declared.Felt.{Felt}
-use Rattle.cpu_rows.specs.Columns.{numbers}
+use Rattle.goldilocks.specs.Felts.{numbers}
 use Rattle.public_input.specs.Statement.{Statement}
 use Rattle.table_builder.specs.declared.faults.Field.TheVariants.{RcMin, RcMax}
-use Rattle.table_builder.specs.Columns.{least, greatest}
+use Rattle.table_builder.specs.Columns.{least_of, greatest_of}
 use Rattle.table_builder.specs.Findings.{Finding, Mismatch, first_found, limit_findings}
 use Rattle.table_builder.proofs.LeastGreatest.{least-reached, greatest-reached, any-and_all}
 use Rattle.table_builder.proofs.Findings.{first_found-none_cons}
@@ -17,18 +17,18 @@ use Rattle.table_builder.proofs.NothingFound.{not_below}
 all_low : (values : List Felt) → All (λ n. n < prime) (numbers values)
 all_low values = All-map (λ n. n < prime) (λ (x : Felt). x.number) values (λ k d within. (get_or values k d).in_field)
 
-pub least-low : (values : List Felt) → least (numbers values) < prime
-unfolding least
+pub least-low : (values : List Felt) → least_of (numbers values) < prime
+unfolding least_of
 least-low [] = lit< tt
 least-low (v ∷ vs) =
-    let there = any-and_all (λ x. x ≡ least (numbers (v ∷ vs))) (λ n. n < prime) (numbers (v ∷ vs)) (least-reached (numbers (v ∷ vs)) (omega arith)) (all_low (v ∷ vs)) in
+    let there = any-and_all (λ x. x ≡ least_of (numbers (v ∷ vs))) (λ n. n < prime) (numbers (v ∷ vs)) (least-reached (numbers (v ∷ vs)) (omega arith)) (all_low (v ∷ vs)) in
     omega (arith, there.1, there.2)
 
-pub greatest-low : (values : List Felt) → greatest (numbers values) < prime
-unfolding greatest
+pub greatest-low : (values : List Felt) → greatest_of (numbers values) < prime
+unfolding greatest_of
 greatest-low [] = lit< tt
 greatest-low (v ∷ vs) =
-    let there = any-and_all (λ x. x ≡ greatest (numbers (v ∷ vs))) (λ n. n < prime) (numbers (v ∷ vs)) (greatest-reached (numbers (v ∷ vs)) (omega arith)) (all_low (v ∷ vs)) in
+    let there = any-and_all (λ x. x ≡ greatest_of (numbers (v ∷ vs))) (λ n. n < prime) (numbers (v ∷ vs)) (greatest-reached (numbers (v ∷ vs)) (omega arith)) (all_low (v ∷ vs)) in
     omega (arith, there.1, there.2)
 
 -- ---- what is found
@@ -42,25 +42,25 @@ told_later true found later e = cc
 told_later false found later e = refl
 
 module _ (public : Statement) (small : List ℕ) where
-  pub below_limit : least small < public.rc_min → first_found (limit_findings public small) ≡ Some (Mismatch RcMin public.rc_min (least small))
+  pub below_limit : least_of small < public.rc_min → first_found (limit_findings public small) ≡ Some (Mismatch RcMin public.rc_min (least_of small))
   unfolding limit_findings
-  below_limit low = told_first (nat_lt (least small) public.rc_min) _ _ (lt-ltb (least small) public.rc_min low)
+  below_limit low = told_first (nat_lt (least_of small) public.rc_min) _ _ (lt-ltb (least_of small) public.rc_min low)
 
-  pub above_limit : public.rc_min ≤ least small → public.rc_max < greatest small → first_found (limit_findings public small) ≡ Some (Mismatch RcMax public.rc_max (greatest small))
+  pub above_limit : public.rc_min ≤ least_of small → public.rc_max < greatest_of small → first_found (limit_findings public small) ≡ Some (Mismatch RcMax public.rc_max (greatest_of small))
   unfolding limit_findings
   above_limit low high =
-      told_later (nat_lt (least small) public.rc_min) _ _ (le-ltb (least small) public.rc_min low)
-      ∙ told_first (nat_lt public.rc_max (greatest small)) _ [] (lt-ltb public.rc_max (greatest small) high)
+      told_later (nat_lt (least_of small) public.rc_min) _ _ (le-ltb (least_of small) public.rc_min low)
+      ∙ told_first (nat_lt public.rc_max (greatest_of small)) _ [] (lt-ltb public.rc_max (greatest_of small) high)
 
-  pub within_limits : public.rc_min ≤ least small → greatest small ≤ public.rc_max → first_found (limit_findings public small) ≡ None
+  pub within_limits : public.rc_min ≤ least_of small → greatest_of small ≤ public.rc_max → first_found (limit_findings public small) ≡ None
   unfolding limit_findings
   within_limits low high =
-      told_later (nat_lt (least small) public.rc_min) _ _ (le-ltb (least small) public.rc_min low)
-      ∙ told_later (nat_lt public.rc_max (greatest small)) _ [] (le-ltb public.rc_max (greatest small) high)
+      told_later (nat_lt (least_of small) public.rc_min) _ _ (le-ltb (least_of small) public.rc_min low)
+      ∙ told_later (nat_lt public.rc_max (greatest_of small)) _ [] (le-ltb public.rc_max (greatest_of small) high)
 
-pub limits_hold : (public : Statement) (small : List ℕ) → first_found (limit_findings public small) ≡ None → (public.rc_min ≤ least small) × (greatest small ≤ public.rc_max)
+pub limits_hold : (public : Statement) (small : List ℕ) → first_found (limit_findings public small) ≡ None → (public.rc_min ≤ least_of small) × (greatest_of small ≤ public.rc_max)
 unfolding limit_findings
 limits_hold public small none =
-    let low = first_found-none_cons (if nat_lt (least small) public.rc_min then Some (Mismatch RcMin public.rc_min (least small)) else None) _ none in
-    let high = first_found-none_cons (if nat_lt public.rc_max (greatest small) then Some (Mismatch RcMax public.rc_max (greatest small)) else None) _ low.1 in
-    (not_below (least small) public.rc_min _ low.0, not_below public.rc_max (greatest small) _ high.0)
+    let low = first_found-none_cons (if nat_lt (least_of small) public.rc_min then Some (Mismatch RcMin public.rc_min (least_of small)) else None) _ none in
+    let high = first_found-none_cons (if nat_lt public.rc_max (greatest_of small) then Some (Mismatch RcMax public.rc_max (greatest_of small)) else None) _ low.1 in
+    (not_below (least_of small) public.rc_min _ low.0, not_below public.rc_max (greatest_of small) _ high.0)

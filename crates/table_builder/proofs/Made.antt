@@ -1,5 +1,5 @@
 -- The tables of a run of which nothing is found: they are valid, and they meet every constraint.
-use Rattle.std.proofs.Common.{Ordering, ◌≡◌, ℕ, ◌+◌, ◌^◌, ◌<◌, ◌≤◌, List, ◌++◌, map, length, get_or, Some, sym, ap, ◌∙◌, subst, arith, append-nil}
+use Rattle.std.proofs.Common.{Ordering, ◌≡◌, ℕ, ◌+◌, ◌^◌, ◌<◌, ◌≤◌, List, [], ◌++◌, map, length, get_or, Some, sym, ap, ◌∙◌, subst, arith, append-nil}
 use Rattle.std.specs.Prelude.{All}
 use Rattle.std.proofs.lemmas.List.{get_or_default}
 use Rattle.std.proofs.lemmas.List.Elements.{All-weaker}
@@ -23,15 +23,17 @@ use Rattle.public_input.specs.Statement.{Statement}
 use Rattle.public_input.specs.Valid.{KeepsLimits}
 use Rattle.trace_files.specs.TraceFile.{IsState}
 use Rattle.table_file.specs.Tables.{Contents, AreValid}
-use Rattle.constraint_checker.specs.Lists.{accesses, range_cells, range_values}
+use Rattle.access_lists.specs.Accesses.{range_cells, accesses as accesses_of}
+use Rattle.access_lists.specs.SmallValues.{small_values as small_values_of}
+use Rattle.constraint_checker.specs.Lists.{accessing, accesses, range_values}
 use Rattle.constraint_checker.specs.Constraints.{states as states_in, first_state, last_state, MeetsAll}
 use Rattle.table_builder.specs.Rows.{first_of, last_of, no_state, rows_of}
-use Rattle.table_builder.specs.Columns.{unsorted, reads, small_values, free_addresses, cells_at, tables_of}
+use Rattle.table_builder.specs.Columns.{reads, small_values, free_addresses, cells_at, tables_of}
 use Rattle.table_builder.proofs.NothingFound.{Answered}
 use Rattle.table_builder.proofs.RowsOfRun.{run_row_count, run_sixteen, run_states, run_meets, last_kept}
 use Rattle.table_builder.proofs.Held.{reads_one_value}
 use Rattle.table_builder.proofs.Filled.{memory_filled, length-fillers, small_within, small_filled, length-absent}
-use Rattle.table_builder.proofs.Counts.{length-range_rows_of, length-accesses, length-range_values}
+use Rattle.table_builder.proofs.Counts.{length-range_rows_of, length-accesses, length-small_values}
 use Rattle.table_builder.proofs.Limbs.{IsCut, all_cut}
 
 -- sorting keeps the length
@@ -44,11 +46,11 @@ module _ (program : Listing) (public : Statement) (m : Memory) (states : List Re
 
   -- the fillers stand behind the other accesses, and the range fillers behind the other small values
   pub made_accesses : accesses program public tables ≡ reads program public m states ++ cells_at m (free_addresses (reads program public m states))
-  unfolding tables_of reads accesses unsorted range_cells
+  unfolding tables_of reads accesses_of range_cells
   made_accesses = ap (λ xs. xs ++ tables.fillers) (sym (append-nil _))
 
   pub made_values : range_values tables ≡ small_values public m states ++ map felt (absent_values (small_values public m states) public.rc_min public.rc_max)
-  unfolding tables_of small_values range_values unsorted
+  unfolding tables_of small_values small_values_of
   made_values = ap (λ xs. xs ++ tables.range_fillers) (sym (append-nil _))
 
   module _ (low : (a v : ℕ) → m a ≡ Some v → v < prime) (small : All IsState states) (some : 2 ≤ length states) (answers : Answered program public m states) where
@@ -59,8 +61,8 @@ module _ (program : Listing) (public : Statement) (m : Memory) (states : List Re
     row_count = run_row_count m states low small legal
 
     pub some_reads : 0 < length (reads program public m states)
-    unfolding reads unsorted
-    some_reads = omega (arith, length-accesses program public (unsorted public m states), row_count, some)
+    unfolding reads tables_of
+    some_reads = omega (arith, length-accesses (accessing program public (record tables { fillers = [] })), row_count, some)
 
     -- ---- valid
 
@@ -80,9 +82,9 @@ module _ (program : Listing) (public : Statement) (m : Memory) (states : List Re
           row_count = omega (arith, rows, limits.most_steps);
           range_row_count = omega (arith, length-range_rows_of public m, limits.most_range_cells);
           filler_count = fillers;
-          pair_count = omega (arith, pairs, length-accesses program public tables, rows, length-range_rows_of public m, is_program.few_words, limits.most_steps, limits.most_range_cells, limits.most_cells, fillers);
+          pair_count = omega (arith, pairs, length-accesses (accessing program public tables), rows, length-range_rows_of public m, is_program.few_words, limits.most_steps, limits.most_range_cells, limits.most_cells, fillers);
           range_filler_count = length-absent (small_values public m states) public.rc_min public.rc_max limits.narrow;
-          sorted_range_count = values ∙ length-range_values tables;
+          sorted_range_count = values ∙ length-small_values (record { rows = tables.rows; range_rows = tables.range; fillers = tables.range_fillers });
         }
 
     -- ---- every constraint

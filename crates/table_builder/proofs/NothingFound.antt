@@ -7,14 +7,14 @@ use Rattle.std.proofs.lemmas.List.Elements.{All-weaker}
 use Rattle.goldilocks.specs.declared.Pair.{Pair}
 use Rattle.casm_word.specs.Transition.{Memory, Registers, Outcome}
 use Rattle.casm_word.specs.Run.{first_refused}
-use Rattle.cpu_rows.specs.Columns.{numbers}
-use Rattle.memory_columns.specs.Filling.{most_fillers}
+use Rattle.goldilocks.specs.Felts.{numbers}
+use Rattle.memory_columns.specs.Filling.{filler_limit}
 use Rattle.program_file.specs.Listing.{Listing}
 use Rattle.public_input.specs.Statement.{Statement}
-use Rattle.constraint_checker.specs.Lists.{program_cells}
+use Rattle.access_lists.specs.Accesses.{program_cells}
 use Rattle.table_builder.specs.declared.faults.Field.TheVariants.{Steps, PcFirst, ApFirst, FpFirst, PcLast, ApLast, Cell, RcMin, RcMax}
 use Rattle.table_builder.specs.Rows.{first_of, last_of, range_address}
-use Rattle.table_builder.specs.Columns.{least, greatest, reads, small_values, free_addresses}
+use Rattle.table_builder.specs.Columns.{least_of, greatest_of, reads, small_values, free_addresses}
 use Rattle.table_builder.specs.Findings.{Finding, Mismatch, Step, RangeWidth, first_found, differs, end_findings, step_finding, cell_finding, cell_findings, range_finding, range_findings, limit_findings, width_finding, findings}
 use Rattle.table_builder.proofs.Findings.{first_found-none, first_found-none_append, first_found-none_cons, first_found-cons_none, map-all_none, first_found-map_none, differs-none, differs-same}
 
@@ -38,11 +38,11 @@ pub record HasEnds (program : Listing) (public : Statement) (states : List Regis
 pub record Answered (program : Listing) (public : Statement) (m : Memory) (states : List Registers) : Type 0 where
   pub ends : HasEnds program public states
   pub legal : first_refused m states ≡ None
-  pub cells : All (Has m) (program_cells program ++ public.cells)
+  pub cells : All (Has m) (program_cells program.words ++ public.cells)
   pub range : All (HasRange public m) (range_with_len 0 public.range_count)
-  pub least : public.rc_min ≤ least (numbers (small_values public m states))
-  pub greatest : greatest (numbers (small_values public m states)) ≤ public.rc_max
-  pub width : length (free_addresses (reads program public m states)) ≤ most_fillers
+  pub least : public.rc_min ≤ least_of (numbers (small_values public m states))
+  pub greatest : greatest_of (numbers (small_values public m states)) ≤ public.rc_max
+  pub width : length (free_addresses (reads program public m states)) ≤ filler_limit
 
 -- ---- one question after another
 
@@ -132,14 +132,14 @@ answered program public m states none =
     let c = first_found-none (ends ++ step ++ cells) range d.0 in
     let b = first_found-none (ends ++ step) cells c.0 in
     let a = first_found-none ends step b.0 in
-    let low = first_found-none_cons (if nat_lt (least small) public.rc_min then Some (Mismatch RcMin public.rc_min (least small)) else None) _ d.1 in
-    let high = first_found-none_cons (if nat_lt public.rc_max (greatest small) then Some (Mismatch RcMax public.rc_max (greatest small)) else None) _ low.1 in
+    let low = first_found-none_cons (if nat_lt (least_of small) public.rc_min then Some (Mismatch RcMin public.rc_min (least_of small)) else None) _ d.1 in
+    let high = first_found-none_cons (if nat_lt public.rc_max (greatest_of small) then Some (Mismatch RcMax public.rc_max (greatest_of small)) else None) _ low.1 in
     record {
       ends = ends-answered program public states a.0;
       legal = step-answered m states (first_found-none_cons (step_finding m states) [] a.1).0;
       cells =
-          All-weaker (λ x. cell_finding x (m x.addr.number) ≡ None) (Has m) (λ x. cell-answered x (m x.addr.number)) (program_cells program ++ public.cells)
-          (map-all_none (λ x. cell_finding x (m x.addr.number)) (program_cells program ++ public.cells) b.1);
+          All-weaker (λ x. cell_finding x (m x.addr.number) ≡ None) (Has m) (λ x. cell-answered x (m x.addr.number)) (program_cells program.words ++ public.cells)
+          (map-all_none (λ x. cell_finding x (m x.addr.number)) (program_cells program.words ++ public.cells) b.1);
       range =
           All-weaker (λ i. range_finding i (range_address public i) (m (range_address public i)) ≡ None) (HasRange public m) (λ i. range-answered i (range_address public i) (m (range_address public i))) (range_with_len 0 public.range_count)
           (map-all_none (λ i. range_finding i (range_address public i) (m (range_address public i))) (range_with_len 0 public.range_count) c.1);
@@ -164,10 +164,10 @@ asked program public m states h =
     (first_found-none_append (ends ++ step) cells
     (first_found-none_append ends step (ends-asked program public states h.ends)
     (first_found-cons_none (step_finding m states) [] (step-asked m states h.legal) refl))
-    (first_found-map_none (λ x. cell_finding x (m x.addr.number)) (program_cells program ++ public.cells)
-    (All-weaker (Has m) (λ x. cell_finding x (m x.addr.number) ≡ None) (λ x. cell-asked x (m x.addr.number)) (program_cells program ++ public.cells) h.cells)))
+    (first_found-map_none (λ x. cell_finding x (m x.addr.number)) (program_cells program.words ++ public.cells)
+    (All-weaker (Has m) (λ x. cell_finding x (m x.addr.number) ≡ None) (λ x. cell-asked x (m x.addr.number)) (program_cells program.words ++ public.cells) h.cells)))
     (first_found-map_none (λ i. range_finding i (range_address public i) (m (range_address public i))) (range_with_len 0 public.range_count)
     (All-weaker (HasRange public m) (λ i. range_finding i (range_address public i) (m (range_address public i)) ≡ None) (λ i has. range-asked i (range_address public i) has.0 (m (range_address public i)) has.1 has.2) (range_with_len 0 public.range_count) h.range)))
-    (first_found-cons_none _ _ (nothing_below (least small) public.rc_min _ h.least)
-    (first_found-cons_none _ [] (nothing_below public.rc_max (greatest small) _ h.greatest) refl)))
-    (first_found-cons_none (width_finding accessed) [] (nothing_below most_fillers (length (free_addresses accessed)) _ h.width) refl)
+    (first_found-cons_none _ _ (nothing_below (least_of small) public.rc_min _ h.least)
+    (first_found-cons_none _ [] (nothing_below public.rc_max (greatest_of small) _ h.greatest) refl)))
+    (first_found-cons_none (width_finding accessed) [] (nothing_below filler_limit (length (free_addresses accessed)) _ h.width) refl)

@@ -14,7 +14,6 @@ use Rattle.casm_word.proofs.RefusedRuns.{first_refused-none}
 use Rattle.casm_word.proofs.Runs.{length-steps}
 use Rattle.program_file.specs.Listing.{Listing}
 use Rattle.public_input.specs.Statement.{Statement}
-use Rattle.public_input.specs.Valid.{addresses}
 use Rattle.cpu_rows.specs.declared.Row.{Row}
 use Rattle.cpu_rows.specs.Columns.{Columns, columns}
 use Rattle.cpu_rows.specs.Steps.{IsRowOf}
@@ -22,24 +21,27 @@ use Rattle.cpu_rows.proofs.RowOfStep.{one_row_of}
 use Rattle.sorted_lists.specs.Order.{in_order}
 use Rattle.memory_columns.specs.Equations.{pair_cmp}
 use Rattle.memory_columns.specs.OneMemory.{Holds}
-use Rattle.memory_columns.specs.Filling.{unaccessed, filler_at, AreFillers, most_fillers}
+use Rattle.memory_columns.specs.Filling.{unaccessed, filler_at, AreFillers, filler_limit}
 use Rattle.memory_columns.proofs.Fillings.{map-map}
 use Rattle.range_columns.specs.declared.RangeRow.{RangeRow}
 use Rattle.range_columns.specs.Limbs.{IsSplitOf}
 use Rattle.range_columns.specs.Equations.{felt_cmp, IsWithin}
 use Rattle.range_columns.specs.Filling.{absent_values}
 use Rattle.table_file.specs.Tables.{Contents}
-use Rattle.constraint_checker.specs.Lists.{cell, cells_from, row_cells, program_cells, range_cells, accesses, row_offsets, limbs, range_values}
+use Rattle.access_lists.specs.Accesses.{row_cells, program_cells, range_cells, accesses as accesses_of}
+use Rattle.access_lists.specs.SmallValues.{row_offsets, limbs, small_values as small_values_of}
+use Rattle.constraint_checker.specs.Lists.{accessing, accesses, range_values}
+use Rattle.goldilocks.specs.Cells.{cell, cells_from, addresses}
 use Rattle.table_builder.specs.Rows.{first_of, last_of, no_state, as_state, as_row, rows_of, range_address, limb_row, range_rows_of}
-use Rattle.table_builder.specs.Columns.{least, greatest, unsorted, reads, small_values, free_addresses, cells_at, tables_of}
+use Rattle.table_builder.specs.Columns.{least_of, greatest_of, reads_of, values_of, reads, small_values, free_addresses, cells_at, tables_of}
 use Rattle.table_builder.specs.Building.{unless_found, building}
-use Rattle.table_builder.specs.TablesOf.{HasFieldValues, AreInField, without_fillers, AreTablesOf}
+use Rattle.table_builder.specs.TablesOf.{HasFieldValues, AreInField, AreTablesOf}
 use Rattle.table_builder.proofs.Kept.{felts_kept, row_kept, state_kept, limbs_kept, cells_kept}
 use Rattle.table_builder.proofs.Spans.{spans_least, spans_greatest, within_least}
 use Rattle.table_builder.proofs.NothingFound.{Has, HasRange, Answered, asked}
 use Rattle.table_builder.proofs.RowsOfRun.{IsTold, columns_of, run_told}
 use Rattle.table_builder.proofs.Filled.{length-fillers}
-use Rattle.table_builder.proofs.Counts.{length-accesses, length-range_values}
+use Rattle.table_builder.proofs.Counts.{length-accesses, length-small_values}
 
 -- ---- the rows
 
@@ -76,7 +78,7 @@ module _ (m : Memory) (public : Statement) where
         All-cons (HasRange public m) k (range_with_len (k + 1) (length rows)) (r.value.number, here, split.0.0) behind.1,
       )
 
-  pub only_range_rows : (tables : Contents) → length tables.range ≡ public.range_count → All (Has m) (range_cells public tables) → All (λ row. (row.value.number < 2 ^ 48) × IsSplitOf row.value.number row) tables.range →
+  pub only_range_rows : (tables : Contents) → length tables.range ≡ public.range_count → All (Has m) (range_cells public.range_begin.number tables.range) → All (λ row. (row.value.number < 2 ^ 48) × IsSplitOf row.value.number row) tables.range →
       (tables.range ≡ range_rows_of public m) × All (HasRange public m) (range_with_len 0 public.range_count)
   unfolding range_cells range_rows_of
   only_range_rows tables count has split =
@@ -91,7 +93,7 @@ pub only_fillers : (m : Memory) (cells fill : List Pair) → AreFillers m cells 
 unfolding cells_at free_addresses
 only_fillers m cells fill are =
     let made : ℕ × ℕ → Pair = λ p. cell (felt p.0) (felt p.1) in
-    let free : unaccessed cells are.least are.greatest ≡ unaccessed cells (least (addresses cells)) (greatest (addresses cells)) =
+    let free : unaccessed cells are.least are.greatest ≡ unaccessed cells (least_of (addresses cells)) (greatest_of (addresses cells)) =
     sym (ap₂ (unaccessed cells) (spans_least cells are.least are.greatest are.spans) (spans_greatest cells are.least are.greatest are.spans)) in
     sym (cells_kept fill)
     ∙ (ap (map made) are.fillers
@@ -115,15 +117,13 @@ module _ (program : Listing) (public : Statement) (m : Memory) (states : List Re
   unfolding Holds
   range_both = only_range_rows m public tables are.range_count are.has_range_cells are.range
 
-  accesses_same : accesses program public (without_fillers tables) ≡ reads program public m states
-  unfolding reads unsorted accesses range_cells
-  accesses_same =
-      ap₂ (λ rows range. flat_map row_cells rows ++ cells_from public.range_begin.number (map (λ (r : RangeRow). r.value) range) ++ program_cells program ++ public.cells ++ [])
-      rows_same range_both.0
+  accesses_same : reads_of program public tables.rows tables.range ≡ reads program public m states
+  unfolding reads
+  accesses_same = ap₂ (reads_of program public) rows_same range_both.0
 
-  values_same : range_values (without_fillers tables) ≡ small_values public m states
-  unfolding small_values unsorted range_values
-  values_same = ap₂ (λ rows range. flat_map row_offsets rows ++ flat_map limbs range ++ []) rows_same range_both.0
+  values_same : values_of tables.rows tables.range ≡ small_values public m states
+  unfolding small_values
+  values_same = ap₂ values_of rows_same range_both.0
 
   abbrev accessed : List Pair
   accessed = reads program public m states
@@ -140,14 +140,14 @@ module _ (program : Listing) (public : Statement) (m : Memory) (states : List Re
       ∙ ap (map felt) (are.range_fillers ∙ ap (λ values. absent_values values public.rc_min public.rc_max) values_same)
 
   pairs_same : tables.pairs ≡ in_order pair_cmp (accessed ++ cells_at m (free_addresses accessed))
-  unfolding accesses range_cells
+  unfolding accesses_of range_cells
   pairs_same =
-      let front = flat_map row_cells tables.rows ++ range_cells public tables ++ program_cells program ++ public.cells in
+      let front = flat_map row_cells tables.rows ++ range_cells public.range_begin.number tables.range ++ program_cells program.words ++ public.cells in
       let before : front ≡ accessed = sym (append-nil front) ∙ accesses_same in
       are.pairs ∙ ap (in_order pair_cmp) (ap₂ (λ xs ys. xs ++ ys) before fillers_same)
 
   sorted_same : tables.sorted_range ≡ in_order felt_cmp (small_values public m states ++ absent)
-  unfolding range_values
+  unfolding small_values_of
   sorted_same =
       let front = flat_map row_offsets tables.rows ++ flat_map limbs tables.range in
       let before : front ≡ small_values public m states = sym (append-nil front) ∙ values_same in
@@ -173,14 +173,12 @@ module _ (program : Listing) (public : Statement) (m : Memory) (states : List Re
       cc
 
   some_small : 0 < length (small_values public m states)
-  unfolding small_values unsorted
-  some_small = omega (arith, length-range_values (unsorted public m states), ap length rows_same, are.row_count, are.step_count, are.run.has_step)
+  some_small = omega (arith, ap length values_same, length-small_values (record { rows = tables.rows; range_rows = tables.range; fillers = [] }), are.row_count, are.step_count, are.run.has_step)
 
   some_accessed : 0 < length accessed
-  unfolding reads unsorted
-  some_accessed = omega (arith, length-accesses program public (unsorted public m states), ap length rows_same, are.row_count, are.step_count, are.run.has_step)
+  some_accessed = omega (arith, ap length accesses_same, length-accesses (accessing program public (record tables { fillers = [] })), are.row_count, are.step_count, are.run.has_step)
 
-  few_free : length (free_addresses accessed) ≤ most_fillers
+  few_free : length (free_addresses accessed) ≤ filler_limit
   few_free = omega (arith, length-fillers m low accessed some_accessed, ap length fillers_same, are.few_fillers)
 
   all_answered : Answered program public m states
@@ -198,7 +196,7 @@ module _ (program : Listing) (public : Statement) (m : Memory) (states : List Re
           ap_last = sym are.last_ap;
         };
         legal = (first_refused-none m states are.run.has_step).1 are.run;
-        cells = All-append (Has m) (program_cells program) public.cells are.has_program are.has_public_cells;
+        cells = All-append (Has m) (program_cells program.words) public.cells are.has_program are.has_public_cells;
         range = range_both.1;
         least = within.0;
         greatest = within.1;

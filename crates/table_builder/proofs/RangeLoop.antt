@@ -8,7 +8,7 @@ use Rattle.goldilocks.specs.Field.{field_add}
 use Rattle.casm_word.specs.Transition.{Memory}
 use Rattle.range_columns.specs.declared.RangeRow.{RangeRow}
 use Rattle.public_input.specs.Statement.{Statement}
-use Rattle.constraint_checker.proofs.CellLists.{first_address, next_address}
+use Rattle.access_lists.proofs.Pieces.{first_address, next_address}
 use Rattle.table_builder.specs.Rows.{range_address, limb_row}
 use Rattle.table_builder.specs.Findings.{Finding, range_finding}
 

@@ -7,7 +7,7 @@ use Rattle.goldilocks.specs.Field.{prime}
 use Rattle.goldilocks.specs.declared.Felt.{Felt}
 use Rattle.goldilocks.proofs.Pairs.{same_felt}
 use Rattle.goldilocks.specs.Felts.{felt}
-use Rattle.constraint_checker.specs.Lists.{cell, cells_from}
+use Rattle.goldilocks.specs.Cells.{cell, cells_from}
 
 -- the cell at a place, whose address is counted up to it
 pub cells_from-at : (address : ℕ) (values : List Felt) (i : ℕ) (addr value : Felt) → i < length values → value ≡ get_or values i value → addr.number ≡ (address + i) % prime → cell addr value ≡ get_or (cells_from address values) i (cell addr value)

@@ -5,49 +5,56 @@ use Rattle.goldilocks.specs.declared.Felt.{Felt}
 use Rattle.goldilocks.specs.declared.Pair.{Pair}
 use Rattle.goldilocks.specs.Felts.{felt}
 use Rattle.casm_word.specs.Transition.{Memory, Registers}
+use Rattle.cpu_rows.specs.declared.Row.{Row}
 use Rattle.sorted_lists.specs.Order.{in_order}
 use Rattle.memory_columns.specs.Equations.{pair_cmp}
 use Rattle.memory_columns.specs.Filling.{unaccessed, filler_at}
+use Rattle.range_columns.specs.declared.RangeRow.{RangeRow}
 use Rattle.range_columns.specs.Equations.{felt_cmp}
 use Rattle.range_columns.specs.Filling.{absent_values}
+use Rattle.access_lists.specs.Accesses.{AccessParts, accesses}
+use Rattle.access_lists.specs.SmallValues.{SmallParts, small_values as small_values_of}
 use Rattle.program_file.specs.Listing.{Listing}
 use Rattle.public_input.specs.Statement.{Statement}
-use Rattle.public_input.specs.Valid.{addresses}
 use Rattle.table_file.specs.Tables.{Contents}
-use Rattle.constraint_checker.specs.Lists.{cell, accesses, range_values}
+use Rattle.goldilocks.specs.Cells.{cell, addresses}
 use Rattle.table_builder.specs.Rows.{rows_of, range_rows_of, last_of, as_state}
 
 -- The least of some numbers; 0 where there are none. Own.
-unfoldable pub least : List ℕ → ℕ
-least numbers = unwrap_or (reduce min numbers) 0
+unfoldable pub least_of : List ℕ → ℕ
+least_of numbers = unwrap_or (reduce min numbers) 0
 
 -- The greatest of some numbers; 0 where there are none. Own.
-unfoldable pub greatest : List ℕ → ℕ
-greatest numbers = unwrap_or (reduce max numbers) 0
+unfoldable pub greatest_of : List ℕ → ℕ
+greatest_of numbers = unwrap_or (reduce max numbers) 0
 
--- The tables of a run before anything is sorted: its rows, its last state and its range rows. Own.
-unfoldable pub unsorted : Statement → Memory → List Registers → Contents
-unsorted public m states = record {
-  rows = rows_of m states;
-  last = as_state (last_of states);
-  range = range_rows_of public m;
+-- Every access to the memory but the fillers, where these are the rows and the range rows. The whitepaper's memory
+-- accesses, with its public memory.
+abbrev pub reads_of : Listing → Statement → List Row → List RangeRow → List Pair
+reads_of program public rows range = accesses (record {
+  rows = rows;
+  range_begin = public.range_begin.number;
+  range_rows = range;
+  words = program.words;
+  public_cells = public.cells;
   fillers = [];
-  pairs = [];
-  range_fillers = [];
-  sorted_range = [];
-}
+})
 
--- Every access to the memory but the fillers. Own.
+-- Every offset and limb of these rows and range rows. The whitepaper's permutation range-checks.
+abbrev pub values_of : List Row → List RangeRow → List Felt
+values_of rows range = small_values_of (record { rows = rows; range_rows = range; fillers = [] })
+
+-- Every access to the memory but the fillers, in a run. Own.
 unfoldable pub reads : Listing → Statement → Memory → List Registers → List Pair
-reads program public m states = accesses program public (unsorted public m states)
+reads program public m states = reads_of program public (rows_of m states) (range_rows_of public m)
 
--- Every offset and limb. Own.
+-- Every offset and limb, in a run. Own.
 unfoldable pub small_values : Statement → Memory → List Registers → List Felt
-small_values public m states = range_values (unsorted public m states)
+small_values public m states = values_of (rows_of m states) (range_rows_of public m)
 
 -- The addresses between the least and the greatest accessed one that are never accessed, ascending. Own.
 unfoldable pub free_addresses : List Pair → List ℕ
-free_addresses cells = unaccessed cells (least (addresses cells)) (greatest (addresses cells))
+free_addresses cells = unaccessed cells (least_of (addresses cells)) (greatest_of (addresses cells))
 
 -- The cells at these addresses, with the memory's values, or 0 where it has none. Own.
 unfoldable pub cells_at : Memory → List ℕ → List Pair

@@ -4,19 +4,21 @@ use Rattle.std.specs.List.{range_with_len}
 use Rattle.goldilocks.specs.declared.Pair.{Pair}
 use Rattle.casm_word.specs.Transition.{Memory, Registers, Outcome, outcome_of}
 use Rattle.casm_word.specs.Run.{first_refused}
-use Rattle.cpu_rows.specs.Columns.{numbers}
-use Rattle.memory_columns.specs.Filling.{most_fillers}
+use Rattle.goldilocks.specs.Felts.{numbers}
+use Rattle.memory_columns.specs.declared.fault.SortFault.{SortFault}
+use Rattle.memory_columns.specs.declared.fault.SortFault.TheVariants as sorting
+use Rattle.memory_columns.specs.Filling.{filler_limit}
 use Rattle.program_file.specs.Listing.{Listing}
 use Rattle.public_input.specs.Statement.{Statement}
-use Rattle.public_input.specs.Valid.{addresses}
+use Rattle.goldilocks.specs.Cells.{addresses}
 use Rattle.range_columns.specs.Limbs.{range_bound}
-use Rattle.constraint_checker.specs.Lists.{program_cells}
+use Rattle.access_lists.specs.Accesses.{program_cells}
 use Rattle.table_builder.specs.declared.faults.Field.{Field}
 use Rattle.table_builder.specs.declared.faults.Field.TheVariants.{Steps, PcFirst, ApFirst, FpFirst, PcLast, ApLast, Cell, RcMin, RcMax}
 use Rattle.table_builder.specs.declared.faults.BuildFault.{BuildFault}
 use Rattle.table_builder.specs.declared.faults.BuildFault.TheVariants as fault
 use Rattle.table_builder.specs.Rows.{first_of, last_of, range_address}
-use Rattle.table_builder.specs.Columns.{least, greatest, reads, small_values, free_addresses}
+use Rattle.table_builder.specs.Columns.{least_of, greatest_of, reads, small_values, free_addresses}
 
 -- What is found, in numbers. The names are those of the faults of `build`. Own.
 pub data Finding : Type 0 where
@@ -39,6 +41,11 @@ finding_of (fault.NoCell address) = Some (NoCell address.number)
 finding_of (fault.RangeWidth row) = Some (RangeWidth row)
 finding_of (fault.TooWide least greatest) = Some (TooWide least.number greatest.number)
 finding_of fault.Memory = None
+
+-- The fault of `build` where sorting the accesses has this fault. Own.
+abbrev pub build_fault : SortFault → BuildFault
+build_fault (sorting.TooWide least greatest) = fault.TooWide least greatest
+build_fault sorting.Memory = fault.Memory
 
 -- The first thing that is found. Own.
 abbrev pub first_found : List (Option Finding) → Option Finding
@@ -75,7 +82,7 @@ cell_finding x (Some found) = differs (Cell x.addr) x.value.number found
 
 -- The memory has to have the program's words, and then the public cells. The whitepaper's public memory.
 unfoldable pub cell_findings : Listing → Statement → Memory → List (Option Finding)
-cell_findings program public m = map (λ x. cell_finding x (m x.addr.number)) (program_cells program ++ public.cells)
+cell_findings program public m = map (λ x. cell_finding x (m x.addr.number)) (program_cells program.words ++ public.cells)
 
 -- Range cell i, at this address, has to be there and below 2^48: what the memory has there is the third argument. Own.
 abbrev pub range_finding : ℕ → ℕ → Option ℕ → Option Finding
@@ -89,15 +96,15 @@ range_findings public m = map (λ i. range_finding i (range_address public i) (m
 -- No offset and no limb may lie below the stated least value or above the stated greatest. Own.
 unfoldable pub limit_findings : Statement → List ℕ → List (Option Finding)
 limit_findings public small =
-    (if nat_lt (least small) public.rc_min then Some (Mismatch RcMin public.rc_min (least small)) else None)
-    ∷ (if nat_lt public.rc_max (greatest small) then Some (Mismatch RcMax public.rc_max (greatest small)) else None)
+    (if nat_lt (least_of small) public.rc_min then Some (Mismatch RcMin public.rc_min (least_of small)) else None)
+    ∷ (if nat_lt public.rc_max (greatest_of small) then Some (Mismatch RcMax public.rc_max (greatest_of small)) else None)
     ∷ []
 
 -- Between the least and the greatest accessed address there may be no more than 2^21 that are never accessed. Own.
 unfoldable pub width_finding : List Pair → Option Finding
 width_finding accessed =
-    if nat_lt most_fillers (length (free_addresses accessed))
-    then Some (TooWide (least (addresses accessed)) (greatest (addresses accessed))) else None
+    if nat_lt filler_limit (length (free_addresses accessed))
+    then Some (TooWide (least_of (addresses accessed)) (greatest_of (addresses accessed))) else None
 
 -- All that is asked, in its order. First come the ends of the run and its steps. Then come the program's words, the
 -- public cells, the range cells, the least and the greatest small value, and how far the accesses reach. Own.

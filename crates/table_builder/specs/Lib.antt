@@ -9,6 +9,7 @@ pub use Rattle.casm_word.specs.Transition
 pub use Rattle.casm_word.specs.Run
 pub use Rattle.program_file.specs.Listing
 pub use Rattle.public_input.specs.Statement
+pub use Rattle.public_input.specs.Limits
 pub use Rattle.public_input.specs.Valid
 pub use Rattle.table_file.specs.Tables
 pub use Rattle.trace_files.specs.TraceFile

@@ -4,7 +4,7 @@
 ghost use Rattle.std.specs.Prelude.{⊤, map};
 ghost use Rattle.program_file.specs.Listing.{listing};
 ghost use Rattle.public_input.specs.Statement.{statement};
-ghost use Rattle.constraint_checker.specs.Lists.{cells_from};
+ghost use Rattle.goldilocks.specs.Cells.{cells_from};
 ghost use Rattle.table_builder.specs.Findings.{cell_finding, cell_findings, first_found};
 ghost use Rattle.table_builder.specs.Parts.{FindsOrGives};
 

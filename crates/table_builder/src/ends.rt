@@ -1,11 +1,12 @@
 //! The number of steps, the first state, and the last pc and ap, against what the program and the public input state.
 #![tactic(auto, unfolding(crate::specs::Findings::finding_of))]
 
-ghost use Rattle.std.specs.Prelude.{◌≡◌, ◌≤◌, ◌<◌, ◌+◌, ⊤, map, length};
+ghost use Rattle.std.specs.Prelude.{◌≡◌, ◌≢◌, ◌≤◌, ◌+◌, ⊤, IfErr, map, length};
 ghost use Rattle.casm_word.specs.Transition.{registers};
-ghost use Rattle.trace_files.specs.TraceFile.{most_states};
+ghost use Rattle.trace_files.specs.TraceFile.{state_limit};
 ghost use Rattle.program_file.specs.Listing.{listing};
 ghost use Rattle.public_input.specs.Statement.{statement};
+ghost use Rattle.table_builder.specs.declared.faults.BuildFault.TheVariants.{Memory};
 ghost use Rattle.table_builder.specs.Findings.{differs, end_findings, first_found};
 ghost use Rattle.table_builder.specs.Parts.{FindsOrGives};
 
@@ -23,8 +24,9 @@ pub(crate) fn ends_agree(
     states: &[State],
 ) -> Result<(), BuildFault>
     requires least { 2 ≤ length states.now }
-    requires most { length states.now ≤ most_states }
-    ensures { FindsOrGives (first_found (end_findings (listing program.now) (statement public.now) (map registers states.now))) (λ _. ⊤) result }
+    requires most { length states.now ≤ state_limit }
+    ensures told { FindsOrGives (first_found (end_findings (listing program.now) (statement public.now) (map registers states.now))) (λ _. ⊤) result }
+    ensures memory { IfErr result (λ fault. fault ≢ Memory) }
 {
     let first = states[0];
     let last = states[states.len() - 1];
@@ -41,7 +43,8 @@ pub(crate) fn ends_agree(
 
 /// An error where what is stated isn't what is found.
 pub(crate) fn agrees(field: Field, stated: Felt, found: Felt) -> Result<(), BuildFault>
-    ensures { FindsOrGives (differs field stated.number found.number) (λ _. ⊤) result }
+    ensures told { FindsOrGives (differs field stated.number found.number) (λ _. ⊤) result }
+    ensures memory { IfErr result (λ fault. fault ≢ Memory) }
 {
     if stated.number == found.number {
         return Ok(());

@@ -2,10 +2,12 @@
 
 ghost use Rattle.std.specs.Prelude.{◌≡◌, Some};
 ghost use Rattle.table_builder.specs.declared.faults.BuildFault.TheVariants.{Memory};
+ghost use Rattle.table_builder.specs.Findings.{build_fault};
 ghost use Rattle.table_builder.specs.Shown.{field_name, fault_text};
 
 use casm_word::StepResult;
 use goldilocks::Felt;
+use memory_columns::SortFault;
 use std::alloc::{AllocError, AllocFailed};
 use std::error::Error;
 use std::fmt;
@@ -33,7 +35,7 @@ pub enum Field {
     RcMax,
 }
 
-/// Why there are no tables. Of several faults the first is told, in this order:
+/// Why there are no tables. Of several faults the first is reported, in this order:
 ///
 /// 1. the number of steps and the two ends of the run, field by field up to [`Field::ApLast`];
 /// 2. the steps;
@@ -142,5 +144,17 @@ impl<T: Drop> From<AllocFailed<T>> for BuildFault {
 
     fn from(_: AllocFailed<T>) -> BuildFault {
         BuildFault::Memory
+    }
+}
+
+/// That the accesses are too far apart, or want of memory.
+impl From<SortFault> for BuildFault {
+    ghost from_gives = { λ fault built. built ≡ build_fault fault };
+
+    fn from(fault: SortFault) -> BuildFault {
+        match fault {
+            SortFault::TooWide { least, greatest } => BuildFault::TooWide { least, greatest },
+            SortFault::Memory => BuildFault::Memory,
+        }
     }
 }

@@ -13,8 +13,8 @@ ghost use Rattle.table_builder.specs.TablesOf.{HasFieldValues, AreInField, AreTa
 
 /// What is built of a run in a memory of the field's numbers. Where tables are built, they are those of the run, and a run
 /// has no others by this definition: tables of it are what is built. There are none exactly where something is found,
-/// and the first such thing is told. Of a program, and with a public input within its limits, tables are valid, and they
-/// meet every constraint.
+/// and the first such thing is reported. Of a program, and with a public input within its limits, tables are valid, and
+/// they meet every constraint.
 pub fn building_laws()
     ensures is { (program : Listing) (public : Statement) (m : Memory) (states : List Registers) (tables : Contents) →
         HasFieldValues m → AreInField states → KeepsLimits public →

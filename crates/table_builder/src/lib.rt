@@ -12,6 +12,3 @@ mod rows;
 pub use builder::build;
 pub use faults::{BuildFault, Field};
 pub use laws::building_laws;
-
-#[cfg(test)]
-mod tests;

@@ -1,17 +1,17 @@
 //! The rows of a run: those of its steps, and those of its range cells.
 #![tactic(auto, unfolding(crate::specs::Findings::finding_of))]
 
-ghost use Rattle.std.specs.Prelude.{◌≡◌, ◌≤◌, ◌<◌, ◌-◌, Some, map, length, unwrap_or, slice_index_or};
-ghost use Rattle.casm_word.specs.declared.State.{State};
-ghost use Rattle.casm_word.specs.Transition.{outcome, registers};
-ghost use Rattle.trace_files.specs.TraceFile.{most_states};
+ghost use Rattle.std.specs.Prelude.{◌≡◌, ◌≤◌, IsSome, map, length, unwrap_or};
+ghost use Rattle.casm_word.specs.Transition.{registers};
+ghost use Rattle.casm_word.specs.Run.{first_refused};
+ghost use Rattle.trace_files.specs.TraceFile.{state_limit};
 ghost use Rattle.public_input.specs.Statement.{statement};
 ghost use Rattle.table_builder.specs.Rows.{limb_row, range_rows_of, rows_of};
-ghost use Rattle.table_builder.specs.Findings.{Step, finding_of, first_found, range_finding, range_findings, step_finding};
+ghost use Rattle.table_builder.specs.Findings.{finding_of, first_found, range_finding, range_findings, step_finding};
 ghost use Rattle.table_builder.specs.Parts.{FindsOrGives};
 
 use crate::BuildFault;
-use casm_word::{Reads, State, step};
+use casm_word::{Reads, State, first_refused};
 use cpu_rows::{Row, build_row};
 use goldilocks::Felt;
 use public_input::Public;
@@ -25,7 +25,7 @@ pub(crate) fn rows_of<M: Reads>(
     m: &M,
 ) -> Result<Vec<Row>, BuildFault>
     requires least { 2 ≤ length states.now }
-    requires most { length states.now ≤ most_states }
+    requires most { length states.now ≤ state_limit }
     ensures { FindsOrGives (step_finding (M.cells m.now) (map registers states.now))
         (λ rows. rows.items ≡ rows_of (M.cells m.now) (map registers states.now)) result }
 {
@@ -33,23 +33,24 @@ pub(crate) fn rows_of<M: Reads>(
     for next in 1..states.len() {
         match build_row(m, states[next - 1], states[next]) {
             Some(row) => rows.push(row)?,
-            None => return Err(refused_step(m, states, next)),
+            None => return Err(refused_step(m, states)),
         }
     }
     Ok(rows)
 }
 
-/// The fault of the step to the state at `next`.
-fn refused_step<M: Reads>(m: &M, states: &[State], next: usize) -> BuildFault
-    requires least { 1 ≤ next }
-    requires within { next < length states.now }
-    requires most { length states.now ≤ most_states }
-    ensures { (d : State) → finding_of result ≡ Some (Step (next - 1) (outcome (M.cells m.now) (registers (slice_index_or states.now (next - 1) d)))) }
+/// The fault of the first step that isn't the transition.
+fn refused_step<M: Reads>(m: &M, states: &[State]) -> BuildFault
+    requires some { IsSome (first_refused (M.cells m.now) (map registers states.now)) }
+    requires most { length states.now ≤ state_limit }
+    ensures { finding_of result ≡ step_finding (M.cells m.now) (map registers states.now) }
 {
-    let before = next - 1;
-    BuildFault::Step {
-        step: before as u32,
-        result: step(m, states[before]),
+    match first_refused(m, states) {
+        Some(refused) => BuildFault::Step {
+            step: refused.0 as u32,
+            result: refused.1,
+        },
+        None => unreachable!(),
     }
 }
 

@@ -1,9 +1,7 @@
-pub mod ItemLists
-pub mod GoodBytes
-pub mod Spelled
 pub mod FirstFaults
 pub mod WholeFiles
 pub mod Heads
 pub mod Spellings
 pub mod Writings
 pub mod Readings
+pub mod Lengths

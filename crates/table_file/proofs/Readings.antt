@@ -6,7 +6,7 @@ use Rattle.std.proofs.lemmas.List.{get_or_past}
 use Rattle.std.specs.Prelude.{slice_index, slice_get}
 use Rattle.std.specs.List.{cons_option, filter_map, range_with_len}
 use Rattle.goldilocks.specs.Field.{prime}
-use Rattle.goldilocks.specs.FileNumbers.{number_at}
+use Rattle.file_records.specs.Numbers.{number_at}
 use Rattle.table_file.specs.declared.head.Counts.{Counts}
 use Rattle.table_file.specs.declared.TableFault.{TableFault}
 use Rattle.table_file.specs.declared.TableFault.TheVariants.{Magic, TooMany, NotField, Length, Memory}
@@ -14,7 +14,7 @@ use Rattle.table_file.specs.Tables.{Contents}
 use Rattle.table_file.specs.Spelling.{magic, SpellsTables}
 use Rattle.table_file.specs.Faults.{count_limits, count_place, value_place, count_in, file_end, IsOtherByte, IsHighCount, IsHighValue, EndsEarly, IsFollowed, HasFault, IsFirstFault, is_other_byte, is_high_count, is_high_value, is_wrong_end, fault_at, first_fault}
 use Rattle.table_file.specs.Reading.{tables_in, unless_fault, reading}
-use Rattle.table_file.proofs.GoodBytes.{IsBytes}
+use Rattle.file_records.proofs.GoodBytes.{IsBytes}
 use Rattle.table_file.proofs.FirstFaults.{file_end_least, first_fault_is_one}
 use Rattle.table_file.proofs.WholeFiles.{file_spells}
 use Rattle.table_file.proofs.Spellings.{SpellsTables-reads, no_fault}
@@ -312,3 +312,8 @@ bytes_of_all bytes all = λ i.
       | inl inside ↦ all i 0 inside
       | inr past ↦ rw (get_or_past bytes i 0 past) (omega arith)
     ]
+
+-- want of memory is no fault of the bytes
+pub no_want_first : (bytes : List ℕ) (f : TableFault) → IsFirstFault bytes f → f ≡ Memory → ⊥
+unfolding HasFault
+no_want_first bytes f first e = subst (HasFault bytes first.place) e first.here

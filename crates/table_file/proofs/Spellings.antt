@@ -9,21 +9,21 @@ use Rattle.std.specs.List.{flat_map, All}
 use Rattle.goldilocks.specs.declared.Felt.{Felt}
 use Rattle.goldilocks.specs.declared.Pair.{Pair}
 use Rattle.goldilocks.specs.Field.{prime}
-use Rattle.goldilocks.specs.FileNumbers.{number_bytes, number_at}
 use Rattle.cpu_rows.specs.declared.Row.{Row}
-use Rattle.cpu_rows.specs.Columns.{numbers}
+use Rattle.goldilocks.specs.Felts.{numbers}
 use Rattle.range_columns.specs.declared.RangeRow.{RangeRow}
 use Rattle.table_file.specs.declared.TableFault.{TableFault}
 use Rattle.table_file.specs.declared.TableFault.TheVariants.{Magic, TooMany, NotField, Length, Memory}
 use Rattle.table_file.specs.Tables.{Contents, AreValid}
-use Rattle.table_file.specs.FileNumbers.{numbers_bytes}
-use Rattle.table_file.specs.Spelling.{magic, counts, row_values, state_values, range_row_values, pair_values, all_values, spelling, SpellsTables}
+use Rattle.file_records.specs.Numbers.{numbers_bytes, number_bytes, number_at}
+use Rattle.table_file.specs.Spelling.{magic, counts, all_values, spelling, SpellsTables}
 use Rattle.table_file.specs.Faults.{count_in, count_limits, value_count, file_end, HasFault}
-use Rattle.table_file.specs.Reading.{items_in, value_of_bytes, row_of_bytes, state_of_bytes, range_row_of_bytes, pair_of_bytes, lists_in, tables_in}
+use Rattle.table_file.specs.Reading.{lists_in, tables_in}
+use Rattle.file_records.specs.Records.{records_in, value_of_bytes, row_of_bytes, state_of_bytes, range_row_of_bytes, pair_of_bytes, row_values, state_values, range_row_values, pair_values}
 use Rattle.table_file.specs.Parts.{HasText, HasLowValues}
-use Rattle.table_file.proofs.ItemLists.{found_again, length-spelled}
-use Rattle.table_file.proofs.GoodBytes.{number_at-drop, felt_finds}
-use Rattle.table_file.proofs.Spelled.{row_values-numbers, row_felts, row_width, row_finds, state_finds, range_row_finds, pair_finds, length-numbers_bytes}
+use Rattle.file_records.proofs.RecordLists.{found_again, length-spelled}
+use Rattle.file_records.proofs.GoodBytes.{number_at-drop, felt_finds}
+use Rattle.file_records.proofs.Spelled.{row_values-numbers, row_felts, row_width, row_finds, state_finds, range_row_finds, pair_finds, length-numbers_bytes}
 use Rattle.table_file.proofs.WholeFiles.{lists_bytes, numbers_bytes-all_values, counts_listed}
 use Rattle.table_file.proofs.FirstFaults.{IsClean, fault_behind}
 
@@ -78,8 +78,8 @@ all_any xs = λ k d inside. tt
 
 -- a list that is spelled is read again, and the bytes behind it are found
 module _ {X : Type 0} (size : ℕ) (item : List ℕ → X) (spell : X → List ℕ) (Fits : X → Type 0) (width : (x : X) → Fits x → length (spell x) ≡ size) (finds : (x : X) → Fits x → item (spell x) ≡ x) where
-  list_found : (xs : List X) (bytes rest : List ℕ) → All Fits xs → bytes ≡ flat_map spell xs ++ rest → items_in size item (length xs) bytes ≡ xs
-  list_found xs bytes rest fit e = ap (items_in size item (length xs)) e ∙ found_again size item spell Fits width finds xs rest fit
+  list_found : (xs : List X) (bytes rest : List ℕ) → All Fits xs → bytes ≡ flat_map spell xs ++ rest → records_in size item (length xs) bytes ≡ xs
+  list_found xs bytes rest fit e = ap (records_in size item (length xs)) e ∙ found_again size item spell Fits width finds xs rest fit
 
   rest_found : (xs : List X) (bytes rest : List ℕ) → All Fits xs → bytes ≡ flat_map spell xs ++ rest → drop (size * length xs) bytes ≡ rest
   rest_found xs bytes rest fit e =
@@ -143,27 +143,27 @@ module _ (t : Contents) (valid : AreValid t) (sixteen : All (λ r. length r.tild
   d6 : r6 ≡ p6
   d6 = rest_found 8 value_of_bytes (λ x. number_bytes x.number) Any (λ x _. refl) (λ x _. felt_finds x) t.range_fillers r5 p6 (all_any t.range_fillers) d5
 
-  rows_found : items_in 264 row_of_bytes (length t.rows) p0 ≡ t.rows
+  rows_found : records_in 264 row_of_bytes (length t.rows) p0 ≡ t.rows
   rows_found = list_found 264 row_of_bytes (λ r. numbers_bytes (row_values r)) (λ r. length r.tilde ≡ 16) row_width row_finds t.rows p0 p1 sixteen refl
 
   last_found : state_of_bytes (take 24 r1) ≡ t.last
   last_found = ap (λ xs. state_of_bytes (take 24 xs)) d1 ∙ (ap state_of_bytes (take_at (numbers_bytes (state_values t.last)) p2 24 refl) ∙ state_finds t.last)
 
-  range_found : items_in 32 range_row_of_bytes (length t.range) r2 ≡ t.range
+  range_found : records_in 32 range_row_of_bytes (length t.range) r2 ≡ t.range
   range_found = list_found 32 range_row_of_bytes (λ r. numbers_bytes (range_row_values r)) Any (λ r _. refl) (λ r _. range_row_finds r) t.range r2 p3 (all_any t.range) d2
 
-  fillers_found : items_in 16 pair_of_bytes (length t.fillers) r3 ≡ t.fillers
+  fillers_found : records_in 16 pair_of_bytes (length t.fillers) r3 ≡ t.fillers
   fillers_found = list_found 16 pair_of_bytes (λ p. numbers_bytes (pair_values p)) Any (λ p _. refl) (λ p _. pair_finds p) t.fillers r3 p4 (all_any t.fillers) d3
 
-  pairs_found : items_in 16 pair_of_bytes (length t.pairs) r4 ≡ t.pairs
+  pairs_found : records_in 16 pair_of_bytes (length t.pairs) r4 ≡ t.pairs
   pairs_found = list_found 16 pair_of_bytes (λ p. numbers_bytes (pair_values p)) Any (λ p _. refl) (λ p _. pair_finds p) t.pairs r4 p5 (all_any t.pairs) d4
 
-  range_fillers_found : items_in 8 value_of_bytes (length t.range_fillers) r5 ≡ t.range_fillers
+  range_fillers_found : records_in 8 value_of_bytes (length t.range_fillers) r5 ≡ t.range_fillers
   range_fillers_found = list_found 8 value_of_bytes (λ x. number_bytes x.number) Any (λ x _. refl) (λ x _. felt_finds x) t.range_fillers r5 p6 (all_any t.range_fillers) d5
 
-  sorted_range_found : items_in 8 value_of_bytes (3 * length t.rows + 3 * length t.range + length t.range_fillers) r6 ≡ t.sorted_range
+  sorted_range_found : records_in 8 value_of_bytes (3 * length t.rows + 3 * length t.range + length t.range_fillers) r6 ≡ t.sorted_range
   sorted_range_found =
-      ap (λ n. items_in 8 value_of_bytes n r6) (sym valid.sorted_range_count)
+      ap (λ n. records_in 8 value_of_bytes n r6) (sym valid.sorted_range_count)
       ∙ list_found 8 value_of_bytes (λ x. number_bytes x.number) Any (λ x _. refl) (λ x _. felt_finds x) t.sorted_range r6 [] (all_any t.sorted_range) (d6 ∙ sym (append-nil p6))
 
   lists_found : lists_in (length t.rows) (length t.range) (length t.fillers) (length t.pairs) (length t.range_fillers) (lists_bytes t) ≡ t

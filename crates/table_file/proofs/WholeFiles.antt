@@ -7,18 +7,18 @@ use Rattle.std.specs.Int.{w64, from_le_bytes}
 use Rattle.std.specs.List.{flat_map}
 use Rattle.std.proofs.lemmas.Nat.{le_bytes_8}
 use Rattle.goldilocks.specs.Field.{prime}
-use Rattle.goldilocks.specs.FileNumbers.{number_bytes}
-use Rattle.cpu_rows.specs.Columns.{numbers}
+use Rattle.goldilocks.specs.Felts.{numbers}
 use Rattle.table_file.specs.declared.head.Counts.{Counts}
 use Rattle.table_file.specs.Tables.{Contents}
-use Rattle.table_file.specs.FileNumbers.{numbers_bytes}
-use Rattle.table_file.specs.Spelling.{magic, counts, row_values, state_values, range_row_values, pair_values, all_values, spelling, SpellsTables}
+use Rattle.file_records.specs.Numbers.{numbers_bytes, number_bytes}
+use Rattle.table_file.specs.Spelling.{magic, counts, all_values, spelling, SpellsTables}
 use Rattle.table_file.specs.Faults.{count_in, count_limits, value_count, value_place, file_end}
-use Rattle.table_file.specs.Reading.{items_in, value_of_bytes, row_of_bytes, state_of_bytes, range_row_of_bytes, pair_of_bytes, lists_in}
+use Rattle.table_file.specs.Reading.{lists_in}
+use Rattle.file_records.specs.Records.{records_in, value_of_bytes, row_of_bytes, state_of_bytes, range_row_of_bytes, pair_of_bytes, row_values, state_values, range_row_values, pair_values}
 use Rattle.table_file.specs.Parts.{IsHead, AreLow, values_by, IsWholeFile}
-use Rattle.table_file.proofs.ItemLists.{length-items_in, All-items_in, flat_map-flat_map, flat_map-map}
-use Rattle.table_file.proofs.GoodBytes.{IsBytes, IsBytes-drop, IsGood, IsGood-fewer, good_back, good_front, spelled_back, number_at-drop, felt_reads}
-use Rattle.table_file.proofs.Spelled.{row_reads, state_reads, range_row_reads, pair_reads, sixteen_tilde}
+use Rattle.file_records.proofs.RecordLists.{length-records_in, All-records_in, flat_map-flat_map, flat_map-map}
+use Rattle.file_records.proofs.GoodBytes.{IsBytes, IsBytes-drop, IsGood, IsGood-fewer, good_back, good_front, spelled_back, number_at-drop, felt_reads}
+use Rattle.file_records.proofs.Spelled.{row_reads, state_reads, range_row_reads, pair_reads, sixteen_tilde}
 
 -- all values as bytes, list after list
 unfoldable pub lists_bytes : Contents → List ℕ
@@ -51,7 +51,7 @@ numbers_bytes-all_values t =
 
 -- so many items and what is behind them
 module _ {X : Type 0} (m size : ℕ) (item : List ℕ → X) (spell : X → List ℕ) (eight : size ≡ 8 * m) (reads : (chunk : List ℕ) → length chunk ≡ size → IsGood m chunk → spell (item chunk) ≡ chunk) where
-  list_and_rest : (n v : ℕ) (bytes back : List ℕ) → size * n ≤ length bytes → IsGood (m * n + v) bytes → back ≡ drop (size * n) bytes → flat_map spell (items_in size item n bytes) ++ back ≡ bytes
+  list_and_rest : (n v : ℕ) (bytes back : List ℕ) → size * n ≤ length bytes → IsGood (m * n + v) bytes → back ≡ drop (size * n) bytes → flat_map spell (records_in size item n bytes) ++ back ≡ bytes
   list_and_rest n v bytes back fits good e =
       let numbers : size * n ≡ 8 * (m * n) = rw eight (omega arith) in
       let front : IsGood (m * n) bytes = record { are_bytes = good.are_bytes; low = λ k inside. good.low k (omega arith) } in
@@ -125,7 +125,7 @@ module _ (a b c d e : ℕ) (bytes : List ℕ) (whole : length bytes ≡ 8 * valu
   pub lists_back : lists_bytes (lists_in a b c d e bytes) ≡ bytes
   unfolding lists_bytes lists_in
   lists_back =
-      let last_list : flat_map (λ x. number_bytes x.number) (items_in 8 value_of_bytes s r6) ≡ r6 =
+      let last_list : flat_map (λ x. number_bytes x.number) (records_in 8 value_of_bytes s r6) ≡ r6 =
       spelled_back 1 8 value_of_bytes (λ x. number_bytes x.number) refl felt_reads s r6 (omega (arith, l6)) (IsGood-fewer s (1 * s) r6 (omega arith) g6)
       ∙ take_all (8 * s) r6 (omega (arith, l6)) in
       let fillers = list_and_rest 1 8 value_of_bytes (λ x. number_bytes x.number) refl felt_reads e s r5 r6 (omega (arith, l5)) (IsGood-fewer (e + s) (1 * e + s) r5 (omega arith) g5) refl in
@@ -141,8 +141,8 @@ module _ (a b c d e : ℕ) (bytes : List ℕ) (whole : length bytes ≡ 8 * valu
 -- ---- the head
 
 -- the five counts as they stand behind the text
-pub counts_listed : (bytes : List ℕ) → items_in 8 (from_le_bytes w64) 5 (drop 8 bytes) ≡ count_in bytes 0 ∷ count_in bytes 1 ∷ count_in bytes 2 ∷ count_in bytes 3 ∷ count_in bytes 4 ∷ []
-unfolding items_in
+pub counts_listed : (bytes : List ℕ) → records_in 8 (from_le_bytes w64) 5 (drop 8 bytes) ≡ count_in bytes 0 ∷ count_in bytes 1 ∷ count_in bytes 2 ∷ count_in bytes 3 ∷ count_in bytes 4 ∷ []
+unfolding records_in
 counts_listed bytes =
     rw (drop-drop 8 8 bytes, drop-drop 8 16 bytes, drop-drop 8 24 bytes, drop-drop 8 32 bytes) refl
 
@@ -199,7 +199,7 @@ module _ (bytes : List ℕ) (c : Counts) (are_bytes : IsBytes bytes) (file : IsW
   unfolding lists_in
   counts_are =
       let h = file.head in
-      rw (length-items_in, length-items_in, length-items_in, length-items_in, length-items_in, h.rows, h.range, h.fillers, h.pairs, h.range_fillers) refl
+      rw (length-records_in, length-records_in, length-records_in, length-records_in, length-records_in, h.rows, h.range, h.fillers, h.pairs, h.range_fillers) refl
 
   values_good : IsGood (values_by c) (drop 48 bytes)
   values_good = record {
@@ -226,12 +226,12 @@ module _ (bytes : List ℕ) (c : Counts) (are_bytes : IsBytes bytes) (file : IsW
       record {
         parts = spelled;
         valid = record {
-          row_count = omega (arith, length-items_in 264 row_of_bytes c.rows (drop 48 bytes), low.rows);
-          range_row_count = omega (arith, length-items_in 32 range_row_of_bytes c.range (drop 24 (drop (264 * c.rows) (drop 48 bytes))), low.range);
-          filler_count = rw length-items_in low.fillers;
-          pair_count = rw length-items_in low.pairs;
-          range_filler_count = rw length-items_in low.range_fillers;
-          sorted_range_count = rw (length-items_in, length-items_in, length-items_in, length-items_in) refl;
+          row_count = omega (arith, length-records_in 264 row_of_bytes c.rows (drop 48 bytes), low.rows);
+          range_row_count = omega (arith, length-records_in 32 range_row_of_bytes c.range (drop 24 (drop (264 * c.rows) (drop 48 bytes))), low.range);
+          filler_count = rw length-records_in low.fillers;
+          pair_count = rw length-records_in low.pairs;
+          range_filler_count = rw length-records_in low.range_fillers;
+          sorted_range_count = rw (length-records_in, length-records_in, length-records_in, length-records_in) refl;
         };
-        sixteen = All-items_in 264 row_of_bytes (λ r. length r.tilde ≡ 16) sixteen_tilde c.rows (drop 48 bytes);
+        sixteen = All-records_in 264 row_of_bytes (λ r. length r.tilde ≡ 16) sixteen_tilde c.rows (drop 48 bytes);
       }

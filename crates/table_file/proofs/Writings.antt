@@ -3,12 +3,12 @@ use Rattle.std.proofs.Common.{◌≡◌, List, ℕ, ◌++◌, [], sym, ap, ◌�
 use Rattle.std.specs.List.{flat_map}
 use Rattle.goldilocks.specs.declared.Felt.{Felt}
 use Rattle.goldilocks.specs.declared.Pair.{Pair}
-use Rattle.goldilocks.specs.FileNumbers.{number_bytes}
 use Rattle.cpu_rows.specs.declared.Row.{Row}
 use Rattle.range_columns.specs.declared.RangeRow.{RangeRow}
 use Rattle.table_file.specs.Tables.{Contents}
-use Rattle.table_file.specs.FileNumbers.{numbers_bytes}
-use Rattle.table_file.specs.Spelling.{magic, counts, row_values, state_values, range_row_values, pair_values, all_values, spelling}
+use Rattle.file_records.specs.Numbers.{numbers_bytes, number_bytes}
+use Rattle.table_file.specs.Spelling.{magic, counts, all_values, spelling}
+use Rattle.file_records.specs.Records.{row_values, state_values, range_row_values, pair_values}
 use Rattle.table_file.proofs.WholeFiles.{lists_bytes, numbers_bytes-all_values}
 
 -- a list that is written behind what stands there

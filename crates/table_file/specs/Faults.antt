@@ -2,16 +2,16 @@
 use Rattle.std.specs.Prelude.{ℕ, ◌≡◌, ◌≢◌, ◌⊎◌, ◌+◌, ◌-◌, ◌*◌, ◌/◌, ◌%◌, ◌<◌, ◌≤◌, min, Bool, not, ◌&&◌, ◌==◌, nat_lt, nat_le, List, [], ◌∷◌, length, slice_index, slice_get, Option, Some, None, if◌then◌else◌}
 use Rattle.std.specs.List.{filter_map, range_with_len}
 use Rattle.goldilocks.specs.Field.{prime}
-use Rattle.goldilocks.specs.FileNumbers.{number_at}
-use Rattle.memory_columns.specs.Filling.{most_fillers}
+use Rattle.file_records.specs.Numbers.{number_at}
+use Rattle.memory_columns.specs.Filling.{filler_limit}
 use Rattle.table_file.specs.declared.TableFault.{TableFault}
 use Rattle.table_file.specs.declared.TableFault.TheVariants.{Magic, TooMany, NotField, Length, Memory}
 use Rattle.table_file.specs.Spelling.{magic}
-use Rattle.table_file.specs.Tables.{most_rows, most_range_rows, most_pairs, most_range_fillers}
+use Rattle.table_file.specs.Tables.{row_limit, range_row_limit, pair_limit, range_filler_limit}
 
 -- The limits of the counts, in their order. Own.
 abbrev pub count_limits : List ℕ
-count_limits = most_rows ∷ most_range_rows ∷ most_fillers ∷ most_pairs ∷ most_range_fillers ∷ []
+count_limits = row_limit ∷ range_row_limit ∷ filler_limit ∷ pair_limit ∷ range_filler_limit ∷ []
 
 -- Where count k begins; k counts from 0. Own.
 abbrev pub count_place : ℕ → ℕ

@@ -1,7 +1,9 @@
 pub mod Tables
-pub mod FileNumbers
 pub mod Spelling
 pub mod Faults
 pub mod Shown
+pub mod Limits
 pub mod Reading
 pub mod Parts
+pub use Rattle.file_records.specs.Numbers
+pub use Rattle.file_records.specs.Records

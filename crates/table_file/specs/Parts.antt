@@ -1,11 +1,11 @@
 -- What the parts of the reader say of the bytes. Only private contracts cite these.
 use Rattle.std.specs.Prelude.{ℕ, ◌≡◌, ◌+◌, ◌<◌, ◌≤◌, List, [], ◌∷◌, length, slice_index}
 use Rattle.goldilocks.specs.Field.{prime}
-use Rattle.goldilocks.specs.FileNumbers.{number_at}
-use Rattle.memory_columns.specs.Filling.{most_fillers}
+use Rattle.file_records.specs.Numbers.{number_at}
+use Rattle.memory_columns.specs.Filling.{filler_limit}
 use Rattle.table_file.specs.declared.head.Counts.{Counts}
 use Rattle.table_file.specs.Spelling.{magic}
-use Rattle.table_file.specs.Tables.{most_rows, most_range_rows, most_pairs, most_range_fillers}
+use Rattle.table_file.specs.Tables.{row_limit, range_row_limit, pair_limit, range_filler_limit}
 use Rattle.table_file.specs.Faults.{count_in, count_limits, count_place, value_count, value_place, file_end}
 
 -- Those of the first eight bytes that are there are the file's text. Own.
@@ -28,11 +28,11 @@ pub record IsHead (bytes : List ℕ) (c : Counts) : Type 0 where
 
 -- No count is above its limit. Own.
 pub record AreLow (c : Counts) : Type 0 where
-  pub rows : c.rows ≤ most_rows
-  pub range : c.range ≤ most_range_rows
-  pub fillers : c.fillers ≤ most_fillers
-  pub pairs : c.pairs ≤ most_pairs
-  pub range_fillers : c.range_fillers ≤ most_range_fillers
+  pub rows : c.rows ≤ row_limit
+  pub range : c.range ≤ range_row_limit
+  pub fillers : c.fillers ≤ filler_limit
+  pub pairs : c.pairs ≤ pair_limit
+  pub range_fillers : c.range_fillers ≤ range_filler_limit
 
 -- The counts in their order. Own.
 abbrev pub counts_of : Counts → List ℕ

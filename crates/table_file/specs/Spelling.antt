@@ -1,12 +1,9 @@
 -- Tables files: which bytes spell which tables.
 use Rattle.std.specs.Prelude.{ℕ, ◌≡◌, List, [], ◌∷◌, ◌++◌, length, All, codes}
 use Rattle.std.specs.List.{flat_map}
-use Rattle.goldilocks.specs.declared.Pair.{Pair}
-use Rattle.casm_word.specs.declared.State.{State}
-use Rattle.cpu_rows.specs.declared.Row.{Row}
-use Rattle.cpu_rows.specs.Columns.{columns, values, numbers}
-use Rattle.range_columns.specs.declared.RangeRow.{RangeRow}
-use Rattle.table_file.specs.FileNumbers.{numbers_bytes}
+use Rattle.goldilocks.specs.Felts.{numbers}
+use Rattle.file_records.specs.Numbers.{numbers_bytes}
+use Rattle.file_records.specs.Records.{row_values, state_values, range_row_values, pair_values}
 use Rattle.table_file.specs.Tables.{Contents, AreValid}
 
 -- The text that a tables file begins with. Own.
@@ -16,22 +13,6 @@ magic = codes "CAIROGT1"
 -- The counts: of rows, range rows, memory fillers, sorted pairs and range fillers. Own.
 abbrev pub counts : Contents → List ℕ
 counts t = length t.rows ∷ length t.range ∷ length t.fillers ∷ length t.pairs ∷ length t.range_fillers ∷ []
-
--- The values of a row, in the order of its columns. Own.
-abbrev pub row_values : Row → List ℕ
-row_values r = values (columns r)
-
--- The values of a state: pc, ap and fp. Own.
-abbrev pub state_values : State → List ℕ
-state_values s = s.pc.number ∷ s.ap.number ∷ s.fp.number ∷ []
-
--- The values of a range row: the value and its three limbs. Own.
-abbrev pub range_row_values : RangeRow → List ℕ
-range_row_values r = r.value.number ∷ r.l0.number ∷ r.l1.number ∷ r.l2.number ∷ []
-
--- The values of a pair: the address and the value. Own.
-abbrev pub pair_values : Pair → List ℕ
-pair_values p = p.addr.number ∷ p.value.number ∷ []
 
 -- All values, list after list: the rows, the last state, the range rows, the memory fillers, the sorted pairs, the
 -- range fillers and the sorted range values. Own.

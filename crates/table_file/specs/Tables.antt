@@ -4,7 +4,7 @@ use Rattle.goldilocks.specs.declared.Felt.{Felt}
 use Rattle.goldilocks.specs.declared.Pair.{Pair}
 use Rattle.casm_word.specs.declared.State.{State}
 use Rattle.cpu_rows.specs.declared.Row.{Row}
-use Rattle.memory_columns.specs.Filling.{most_fillers}
+use Rattle.memory_columns.specs.Filling.{filler_limit}
 use Rattle.range_columns.specs.declared.RangeRow.{RangeRow}
 use Rattle.table_file.specs.declared.Tables.{Tables}
 
@@ -32,27 +32,27 @@ contents t = record {
 }
 
 -- The most rows. Own.
-abbrev pub most_rows : ℕ
-most_rows = 2 ^ 20
+abbrev pub row_limit : ℕ
+row_limit = 2 ^ 20
 
 -- The most range rows. Own.
-abbrev pub most_range_rows : ℕ
-most_range_rows = 2 ^ 18
+abbrev pub range_row_limit : ℕ
+range_row_limit = 2 ^ 18
 
 -- The most sorted pairs. Own.
-abbrev pub most_pairs : ℕ
-most_pairs = 7077888
+abbrev pub pair_limit : ℕ
+pair_limit = 7077888
 
 -- The most range fillers. Own.
-abbrev pub most_range_fillers : ℕ
-most_range_fillers = 65536
+abbrev pub range_filler_limit : ℕ
+range_filler_limit = 65536
 
 -- Tables that a file may hold: no list is above its limit. There is a sorted range value for each offset of a row, for
 -- each limb of a range row and for each range filler. Own.
 pub record AreValid (t : Contents) : Type 0 where
-  pub row_count : length t.rows ≤ most_rows
-  pub range_row_count : length t.range ≤ most_range_rows
-  pub filler_count : length t.fillers ≤ most_fillers
-  pub pair_count : length t.pairs ≤ most_pairs
-  pub range_filler_count : length t.range_fillers ≤ most_range_fillers
+  pub row_count : length t.rows ≤ row_limit
+  pub range_row_count : length t.range ≤ range_row_limit
+  pub filler_count : length t.fillers ≤ filler_limit
+  pub pair_count : length t.pairs ≤ pair_limit
+  pub range_filler_count : length t.range_fillers ≤ range_filler_limit
   pub sorted_range_count : length t.sorted_range ≡ 3 * length t.rows + 3 * length t.range + length t.range_fillers

@@ -3,23 +3,56 @@
 ghost use Rattle.std.specs.Prelude.{◌≡◌, ◌≤◌, ◌+◌, ◌++◌, MatchBool, IfOk, IfErr, OnOk};
 ghost use Rattle.table_file.specs.Faults.{value_place, IsFirstFault};
 ghost use Rattle.table_file.specs.Tables.{contents};
-ghost use Rattle.table_file.specs.FileNumbers.{numbers_bytes};
+ghost use Rattle.file_records.specs.Numbers.{numbers_bytes};
 ghost use Rattle.table_file.specs.Spelling.{counts};
 ghost use Rattle.table_file.specs.Parts.{HasText, IsHead, AreLow, values_by, counts_of};
 ghost use Rattle.table_file.specs.declared.TableFault.TheVariants.{Magic};
 
-use crate::file_numbers::read_number;
 use crate::{TableFault, Tables};
+use file_records::{read_number, write_number};
 use std::alloc::AllocError;
 
 /// The text that a tables file begins with.
 pub(crate) const MAGIC: [u8; 8] = *b"CAIROGT1";
 
-/// The most rows, range rows, memory fillers, sorted pairs and range fillers of a file.
-const LIMITS: [u64; 5] = [1 << 20, 1 << 18, 1 << 21, 7_077_888, 65_536];
+/// The most rows of a file.
+const ROW_LIMIT: usize = 1 << 20;
+
+/// The most range rows of a file.
+const RANGE_ROW_LIMIT: usize = 1 << 18;
+
+/// The most memory fillers of a file.
+const FILLER_LIMIT: usize = 1 << 21;
+
+/// The most sorted pairs of a file.
+const PAIR_LIMIT: usize = 7_077_888;
+
+/// The most range fillers of a file.
+const RANGE_FILLER_LIMIT: usize = 65_536;
+
+/// The limits of the counts, in their order.
+const LIMITS: [u64; 5] = [
+    ROW_LIMIT as u64,
+    RANGE_ROW_LIMIT as u64,
+    FILLER_LIMIT as u64,
+    PAIR_LIMIT as u64,
+    RANGE_FILLER_LIMIT as u64,
+];
 
 /// The bytes before the first value: the text and the counts.
 pub(crate) const HEAD: usize = 48;
+
+/// The most values of a file: those of the greatest counts. A row has 33 and 3 sorted ones, the last state 3, and a range
+/// row 4 and 3 sorted ones. A cell has 2, and a range filler 1 and a sorted one.
+const VALUE_LIMIT: usize = 36 * ROW_LIMIT
+    + 3
+    + 7 * RANGE_ROW_LIMIT
+    + 2 * FILLER_LIMIT
+    + 2 * PAIR_LIMIT
+    + 2 * RANGE_FILLER_LIMIT;
+
+/// The most bytes that a tables file may have: those of the greatest counts.
+pub const TABLES_LIMIT: usize = HEAD + 8 * VALUE_LIMIT;
 
 /// The counts of a tables file, in their order.
 #[derive(Clone, Copy)]
@@ -43,7 +76,7 @@ pub(crate) fn has_text(bytes: &[u8]) -> bool
     true
 }
 
-/// The counts behind the file's text, or the first fault where one is missing or above its limit.
+/// The counts after the file's text, or the first fault where one is missing or above its limit.
 pub(crate) fn read_counts(bytes: &[u8]) -> Result<Counts, TableFault>
     requires { HasText bytes.now }
     ensures head { IfOk result (IsHead bytes.now) }
@@ -97,7 +130,7 @@ impl Counts {
             self.range_fillers,
         ];
         for count in counts {
-            out.extend_from_slice(&(count as u64).to_le_bytes())?;
+            write_number(out, count as u64)?;
         }
         Ok(())
     }

@@ -1,18 +1,20 @@
 //! Tables files: the trace table, the range rows, and the columns of the memory and of the small values, in one file.
 #![tactic(auto)]
 
-mod file_numbers;
 mod head;
-mod items;
-pub mod laws;
+mod laws;
 mod reading;
 mod writing;
 
 use casm_word::State;
 use cpu_rows::Row;
+pub use head::TABLES_LIMIT;
+pub use laws::{limit_laws, reading_laws, spelling_laws};
 use memory_columns::MemoryColumns;
 use range_columns::{RangeColumns, RangeRow};
 pub use reading::read;
+use std::alloc::AllocError;
+use std::error::Error;
 use std::fmt;
 pub use writing::write;
 
@@ -31,7 +33,7 @@ pub struct Tables {
     pub small: RangeColumns,
 }
 
-/// Why bytes are no tables file. Of several faults the one at the least place in the file is told.
+/// Why bytes are no tables file. Of several faults the one at the least place in the file is reported.
 #[derive(Clone, Copy, Debug, PartialEq, Eq)]
 pub enum TableFault {
     /// One of the first eight bytes is there and is another.
@@ -42,7 +44,7 @@ pub enum TableFault {
     NotField(u64),
     /// The file ends before its last part, or a byte follows that part.
     Length,
-    /// Want of memory.
+    /// Want of memory. The bytes spell tables all the same.
     Memory,
 }
 
@@ -64,5 +66,15 @@ impl fmt::Display for TableFault {
     }
 }
 
-#[cfg(test)]
-mod tests;
+impl Error for TableFault {}
+
+impl From<AllocError> for TableFault {
+    ghost use Rattle.std.specs.Prelude.{◌≡◌};
+    ghost use Rattle.table_file.specs.declared.TableFault.TheVariants.{Memory};
+
+    ghost from_gives = { λ _ fault. fault ≡ Memory };
+
+    fn from(_: AllocError) -> TableFault {
+        TableFault::Memory
+    }
+}

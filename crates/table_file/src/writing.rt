@@ -2,12 +2,16 @@
 
 ghost use Rattle.std.specs.Prelude.{◌≡◌, ◌++◌, All, IfOk, OnOk, length};
 ghost use Rattle.table_file.specs.Tables.{contents, AreValid};
-ghost use Rattle.table_file.specs.FileNumbers.{numbers_bytes};
+ghost use Rattle.file_records.specs.Numbers.{numbers_bytes};
 ghost use Rattle.table_file.specs.Spelling.{all_values, spelling, SpellsTables};
 
 use crate::Tables;
 use crate::head::{Counts, MAGIC};
-use crate::items::{Item, write_items};
+use casm_word::State;
+use cpu_rows::Row;
+use file_records::{Record, write_records};
+use goldilocks::{Felt, Pair};
+use range_columns::RangeRow;
 use std::alloc::{AllocError, Global};
 
 /// The bytes of the tables' file, the only ones that spell these tables. The tables are valid. Memory is taken once.
@@ -29,14 +33,14 @@ pub fn write(alloc: Global, tables: &Tables) -> Result<Vec<u8>, AllocError>
 /// Appends the bytes of all lists, one list after another.
 fn write_lists(out: &mut Vec<u8>, tables: &Tables) -> Result<(), AllocError>
     ensures bytes { OnOk result (out.new.items ≡ out.old.items ++ numbers_bytes (all_values (contents tables.now))) }
-    ensures sixteen { OnOk result (All (λ r. length r.tilde ≡ 16) tables.now.rows.items) }
+    ensures sixteen { OnOk result (All (λ r. length r.tilde ≡ 16) (contents tables.now).rows) }
 {
-    write_items(out, &tables.rows)?;
-    tables.last.write(out)?;
-    write_items(out, &tables.range)?;
-    write_items(out, &tables.memory.fill)?;
-    write_items(out, &tables.memory.sorted)?;
-    write_items(out, &tables.small.fill)?;
-    write_items(out, &tables.small.sorted)?;
+    write_records::<Row>(out, &tables.rows)?;
+    State::write(&tables.last, out)?;
+    write_records::<RangeRow>(out, &tables.range)?;
+    write_records::<Pair>(out, &tables.memory.fill)?;
+    write_records::<Pair>(out, &tables.memory.sorted)?;
+    write_records::<Felt>(out, &tables.small.fill)?;
+    write_records::<Felt>(out, &tables.small.sorted)?;
     Ok(())
 }

@@ -1,6 +1,4 @@
-pub mod Places
-pub mod FileNumbers
-pub mod Items
+pub mod Chunks
 pub mod TraceFile
 pub mod MemoryFile
 pub mod MemoryLookup

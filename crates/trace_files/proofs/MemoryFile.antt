@@ -1,24 +1,30 @@
 -- What the bytes of a memory file spell, and what is wrong with others.
-use Rattle.std.proofs.Common.{◌≡◌, ◌≢◌, inl, inr, ℕ, ◌+◌, ◌-◌, ◌*◌, ◌<◌, ◌≤◌, ◌/◌, ◌%◌, ◌==◌, Bool, nat_lt, cond, true, false, Some, None, Ok, Err, Option, Result, MatchOption, MatchResult, List, [], ◌∷◌, ◌++◌, length, take, drop, map, refl, sym, ap, ◌∙◌, append_assoc, arith, length-append, take-add, zero-add, subst, ◌↔◌, option_map}
-use Rattle.std.proofs.lemmas.Bool.{ltb-true, ltb-false, lt-ltb, le-ltb, eqb-true, eqb-false, eq-eqb, ne_eqb, or_cases, or_parts, or_left, or_right, or_from, cases_lt, false_from_ne_true}
-use Rattle.std.proofs.lemmas.Option.{slice_get-map, slice_get_within, get_or_from_slice_get}
+use Rattle.std.proofs.Common.{◌≡◌, inl, inr, ℕ, ◌+◌, ◌-◌, ◌*◌, ◌<◌, ◌≤◌, ◌/◌, ◌%◌, ◌==◌, Bool, nat_lt, cond, true, false, Some, None, Ok, Err, Option, Result, MatchOption, MatchResult, List, [], ◌∷◌, ◌++◌, length, take, drop, map, refl, sym, ap, ◌∙◌, append_assoc, arith, length-append, take-add, zero-add, subst, option_map}
+use Rattle.std.proofs.lemmas.Bool.{ltb-true, ltb-false, lt-ltb, le-ltb, eqb-true, eqb-false, eq-eqb, ne_eqb, or_cases, or_parts, or_left, or_right, or_from, cases_lt}
+use Rattle.std.proofs.lemmas.Option.{slice_get-map, get_or_from_slice_get}
 use Rattle.std.proofs.lemmas.Simd.{map-map}
-use Rattle.std.proofs.lemmas.List.{drop-drop, length-map, take_all}
+use Rattle.std.proofs.lemmas.List.{drop-drop, length-map}
 use Rattle.std.proofs.lemmas.List.FromFn.{length-range_with_len, length-map-range_with_len, get_or-map-range_with_len}
 use Rattle.std.proofs.Math.Seq.{take-length}
 use Rattle.std.specs.List.{flat_map, range_with_len, slice_index, slice_get, AllByRecursion}
 use Rattle.std.specs.List.Sorted.{IsStrictlyIncreasing}
 use Rattle.goldilocks.specs.Field.{prime}
 use Rattle.goldilocks.specs.declared.Pair.{Pair}
-use Rattle.goldilocks.specs.FileNumbers.{number_bytes, number_at}
+use Rattle.goldilocks.specs.Felts.{felt}
+use Rattle.goldilocks.specs.Cells.{cell, addresses}
+use Rattle.goldilocks.proofs.Pairs.{felt-number}
+use Rattle.std.proofs.Math.Nat.{mod-eq_of_lt}
+use Rattle.file_records.specs.Records.{pair_values, records_in, pair_of_bytes, pair_of_values, value_of_bytes}
+use Rattle.file_records.proofs.RecordLists.{flat_map-flat_map}
+use Rattle.trace_files.proofs.Chunks.{number_in_chunk}
+use Rattle.file_records.specs.Numbers.{number_bytes, number_at}
 use Rattle.trace_files.specs.declared.fault.FileFault.{FileFault}
 use Rattle.trace_files.specs.declared.fault.FileFault.TheVariants.{TooMany, Length, NotField, Order, Memory}
-use Rattle.trace_files.specs.FileNumbers.{AreNumbersBefore, IsFirstNotField, first_failing_place, first_not_field}
-use Rattle.trace_files.specs.MemoryFile.{memory_limit, Cell, as_cell, as_cells, cell_bytes, memory_bytes, most_cells, cell_at, IsCell, cell_addresses, cells_in, SpellsMemory, AscendsBefore, IsFirstDisorder, entry_of, HasMemoryLength, IsMemoryFault, ascends_at, first_disorder, cells_unless, memory_reading}
-use Rattle.trace_files.specs.Parts.{IsNumberFault, LastBelow}
-use Rattle.trace_files.proofs.Places.{FindsFirst, found, none_found, first_found}
-use Rattle.trace_files.proofs.Items.{IsLayout, length-spelled, spelled_back, found_again, AllByRecursion-map_range}
-use Rattle.trace_files.proofs.FileNumbers.{number_finds, numbers_stand, first_not_field-told, first_not_field-none, first_not_field-some}
+use Rattle.file_records.specs.Numbers.{AreNumbersBefore, IsFirstNotField, first_failing_place, first_not_field}
+use Rattle.trace_files.specs.MemoryFile.{memory_limit, cell_bytes, memory_bytes, memory_cell_limit, cell_at, cells_in, SpellsMemory, AscendsBefore, IsFirstDisorder, entry_of, HasMemoryLength, IsMemoryFault, ascends_at, first_disorder, cells_unless, memory_reading}
+use Rattle.file_records.proofs.Places.{FindsFirst, found, none_found, first_found}
+use Rattle.file_records.proofs.Layouts.{IsLayout, length-spelled, spelled_back, found_again, records_at, same_map_range}
+use Rattle.file_records.proofs.FileNumbers.{number_finds, numbers_stand, first_not_field-told, first_not_field-none, first_not_field-some}
 
 -- 16 bytes are twice eight
 halves : {X : Type 0} (p : ℕ) (bytes : List X) → take 16 (drop p bytes) ≡ take 8 (drop p bytes) ++ take 8 (drop (p + 8) bytes)
@@ -28,47 +34,53 @@ halves p bytes = take-add 8 8 (drop p bytes) ∙ rw drop-drop refl
 cell_reads : (bytes : List ℕ) → AreNumbersBefore bytes (length bytes) → (i : ℕ) → 16 * i + 16 ≤ length bytes → cell_bytes (cell_at bytes i) ≡ take 16 (drop (16 * i) bytes)
 unfolding cell_at
 cell_reads bytes numbers i fits =
-    let addr_reads = sym (numbers (16 * i) (omega arith) (omega arith)).own in
-    let value_reads = sym (numbers (16 * i + 8) (omega arith) (omega arith)).own in
-    ap (λ x. x ++ number_bytes (number_at bytes (16 * i + 8))) addr_reads
+    let addr = numbers (16 * i) (omega arith) (omega arith) in
+    let value = numbers (16 * i + 8) (omega arith) (omega arith) in
+    let addr_reads : number_bytes (number_at bytes (16 * i) % prime) ≡ take 8 (drop (16 * i) bytes) = ap (λ n. number_bytes n) (mod-eq_of_lt addr.below) ∙ sym addr.own in
+    let value_reads : number_bytes (number_at bytes (16 * i + 8) % prime) ≡ take 8 (drop (16 * i + 8) bytes) = ap (λ n. number_bytes n) (mod-eq_of_lt value.below) ∙ sym value.own in
+    ap (λ x. x ++ number_bytes (number_at bytes (16 * i + 8) % prime)) addr_reads
     ∙ ap (λ x. take 8 (drop (16 * i) bytes) ++ x) value_reads
     ∙ sym (halves (16 * i) bytes)
 
-cell_fits : (bytes : List ℕ) → AreNumbersBefore bytes (length bytes) → (i : ℕ) → 16 * i + 16 ≤ length bytes → IsCell (cell_at bytes i)
-unfolding cell_at
-cell_fits bytes numbers i fits = record {
-  addr = (numbers (16 * i) (omega arith) (omega arith)).below;
-  value = (numbers (16 * i + 8) (omega arith) (omega arith)).below;
-}
+-- an entry may have any cell
+abbrev AnyCell : Pair → Type 0
+AnyCell c = Unit {0}
 
-same_cell : (c : Cell) (addr value : ℕ) → addr ≡ c.addr → value ≡ c.value → ◌≡◌ {A = Cell} (record { addr = addr; value = value }) c
-same_cell c addr value a v = λ i. record { addr = a i; value = v i }
+any_cells : (cells : List Pair) → AllByRecursion AnyCell cells
+any_cells [] = tt
+any_cells (c ∷ rest) = (tt, any_cells rest)
 
-cell_finds : (front : List ℕ) (c : Cell) (rest : List ℕ) (i : ℕ) → IsCell c → length front ≡ 16 * i → cell_at (front ++ (cell_bytes c ++ rest)) i ≡ c
+same_cell : (c : Pair) (addr value : ℕ) → addr ≡ c.addr.number → value ≡ c.value.number → cell (felt addr) (felt value) ≡ c
+same_cell c addr value a v =
+    let same_addr : felt addr ≡ c.addr = ap (λ n. felt n) a ∙ felt-number c.addr in
+    let same_value : felt value ≡ c.value = ap (λ n. felt n) v ∙ felt-number c.value in
+    λ i. record { addr = same_addr i; value = same_value i }
+
+cell_finds : (front : List ℕ) (c : Pair) (rest : List ℕ) (i : ℕ) → AnyCell c → length front ≡ 16 * i → cell_at (front ++ (cell_bytes c ++ rest)) i ≡ c
 unfolding cell_at
-cell_finds front c rest i fits at =
-    let addr_is : number_at (front ++ (cell_bytes c ++ rest)) (16 * i) ≡ c.addr = number_finds front c.addr (number_bytes c.value ++ rest) (16 * i) (omega (arith, fits.addr)) at in
-    let value_is : number_at (front ++ (cell_bytes c ++ rest)) (16 * i + 8) ≡ c.value =
-    ap (λ bytes. number_at bytes (16 * i + 8)) (sym (append_assoc front (number_bytes c.addr) (number_bytes c.value ++ rest)))
-    ∙ number_finds (front ++ number_bytes c.addr) c.value rest (16 * i + 8) (omega (arith, fits.value)) (omega (arith, length-append front (number_bytes c.addr))) in
+cell_finds front c rest i any at =
+    let addr_is : number_at (front ++ (cell_bytes c ++ rest)) (16 * i) ≡ c.addr.number = number_finds front c.addr.number (number_bytes c.value.number ++ rest) (16 * i) (omega (arith, c.addr.in_field)) at in
+    let value_is : number_at (front ++ (cell_bytes c ++ rest)) (16 * i + 8) ≡ c.value.number =
+    ap (λ bytes. number_at bytes (16 * i + 8)) (sym (append_assoc front (number_bytes c.addr.number) (number_bytes c.value.number ++ rest)))
+    ∙ number_finds (front ++ number_bytes c.addr.number) c.value.number rest (16 * i + 8) (omega (arith, c.value.in_field)) (omega (arith, length-append front (number_bytes c.addr.number))) in
     same_cell c _ _ addr_is value_is
 
-cell_layout : IsLayout 16 cell_at cell_bytes IsCell
+cell_layout : IsLayout 16 cell_at cell_bytes AnyCell
 cell_layout = record { width = λ c. refl; finds = cell_finds }
 
 -- as many cells as the bytes have places
-pub length-spelled_memory : (bytes : List ℕ) (cells : List Cell) → SpellsMemory bytes cells → length bytes ≡ 16 * length cells
+pub length-spelled_memory : (bytes : List ℕ) (cells : List Pair) → SpellsMemory bytes cells → length bytes ≡ 16 * length cells
 length-spelled_memory bytes cells spells = ap length spells.parts ∙ length-spelled 16 cell_bytes (λ c. refl) cells
 
 -- the cells at their places are the ones that the bytes spell
-cells_in-spelled : (bytes : List ℕ) (cells : List Cell) → SpellsMemory bytes cells → cells_in bytes ≡ cells
+cells_in-spelled : (bytes : List ℕ) (cells : List Pair) → SpellsMemory bytes cells → cells_in bytes ≡ cells
 unfolding cells_in
 cells_in-spelled bytes cells spells =
     let count : length bytes / 16 ≡ length cells = omega (arith, length-spelled_memory bytes cells spells) in
-    rw count (ap (λ b. map (cell_at b) (range_with_len 0 (length cells))) spells.parts ∙ found_again 16 cell_at cell_bytes IsCell cell_layout [] 0 cells spells.numbers refl)
+    rw count (ap (λ b. map (cell_at b) (range_with_len 0 (length cells))) spells.parts ∙ found_again 16 cell_at cell_bytes AnyCell cell_layout [] 0 cells (any_cells cells) refl)
 
 -- bytes spell one memory at most
-pub memory_is_unique : (bytes : List ℕ) (c d : List Cell) → SpellsMemory bytes c → SpellsMemory bytes d → c ≡ d
+pub memory_is_unique : (bytes : List ℕ) (c d : List Pair) → SpellsMemory bytes c → SpellsMemory bytes d → c ≡ d
 memory_is_unique bytes c d one other = sym (cells_in-spelled bytes c one) ∙ cells_in-spelled bytes d other
 
 length-cells_in : (bytes : List ℕ) → length (cells_in bytes) ≡ length bytes / 16
@@ -77,34 +89,41 @@ length-cells_in bytes = length-map-range_with_len (cell_at bytes) 0 (length byte
 
 -- ---- the addresses
 
-length-addresses_at : (bytes : List ℕ) (n : ℕ) → length (cell_addresses (map (cell_at bytes) (range_with_len 0 n))) ≡ n
+length-addresses_at : (bytes : List ℕ) (n : ℕ) → length (addresses (map (cell_at bytes) (range_with_len 0 n))) ≡ n
 length-addresses_at bytes n = simp (length-map, length-range_with_len) refl
 
+-- the first addresses are numbers of the field
+abbrev HasLowAddresses : List ℕ → ℕ → Type 0
+HasLowAddresses bytes n = (i : ℕ) → i < n → number_at bytes (16 * i) < prime
+
+low_addresses : (bytes : List ℕ) (n : ℕ) → AreNumbersBefore bytes (length bytes) → 16 * n ≤ length bytes → HasLowAddresses bytes n
+low_addresses bytes n numbers fits = λ i within. (numbers (16 * i) (omega arith) (omega arith)).below
+
 -- the addresses at their places
-address_at : (bytes : List ℕ) (n j : ℕ) → j < n → slice_index (cell_addresses (map (cell_at bytes) (range_with_len 0 n))) j ≡ number_at bytes (16 * j)
+address_at : (bytes : List ℕ) (n j : ℕ) → HasLowAddresses bytes n → j < n → slice_index (addresses (map (cell_at bytes) (range_with_len 0 n))) j ≡ number_at bytes (16 * j)
 unfolding cell_at
-address_at bytes n j within =
-    rw map-map (get_or-map-range_with_len (λ i. number_at bytes (16 * i)) 0 n j j 0 within (zero-add j))
+address_at bytes n j low within =
+    rw map-map (get_or-map-range_with_len (λ i. number_at bytes (16 * i) % prime) 0 n j j 0 within (zero-add j)) ∙ mod-eq_of_lt (low j within)
 
 -- addresses that rise at their places, and the same of the list of them
-ascending_listed : (bytes : List ℕ) (n : ℕ) → AscendsBefore bytes (16 * n) → IsStrictlyIncreasing (cell_addresses (map (cell_at bytes) (range_with_len 0 n)))
-ascending_listed bytes n ascends = λ k within.
+ascending_listed : (bytes : List ℕ) (n : ℕ) → HasLowAddresses bytes n → AscendsBefore bytes (16 * n) → IsStrictlyIncreasing (addresses (map (cell_at bytes) (range_with_len 0 n)))
+ascending_listed bytes n lows ascends = λ k within.
     let size = length-addresses_at bytes n in
-    let here = address_at bytes n k (omega arith) in
-    let behind = address_at bytes n (k + 1) (omega arith) in
+    let here = address_at bytes n k lows (omega arith) in
+    let behind = address_at bytes n (k + 1) lows (omega arith) in
     let before : 16 * (k + 1) - 16 ≡ 16 * k = omega arith in
     let rises : number_at bytes (16 * (k + 1) - 16) < number_at bytes (16 * (k + 1)) = ascends (16 * (k + 1)) (omega arith) (omega arith) (omega arith) in
     let same = ap (λ p. number_at bytes p) before in
     omega (arith, here, behind, rises, same)
 
-ascending_placed : (bytes : List ℕ) (n : ℕ) → IsStrictlyIncreasing (cell_addresses (map (cell_at bytes) (range_with_len 0 n))) → AscendsBefore bytes (16 * n)
-ascending_placed bytes n rises = λ place second within entry.
+ascending_placed : (bytes : List ℕ) (n : ℕ) → HasLowAddresses bytes n → IsStrictlyIncreasing (addresses (map (cell_at bytes) (range_with_len 0 n))) → AscendsBefore bytes (16 * n)
+ascending_placed bytes n lows rises = λ place second within entry.
     let k : ℕ = place / 16 - 1 in
     let at : 16 * (k + 1) ≡ place = omega arith in
     let before : 16 * k ≡ place - 16 = omega arith in
     let size = length-addresses_at bytes n in
-    let here = address_at bytes n k (omega arith) in
-    let behind = address_at bytes n (k + 1) (omega arith) in
+    let here = address_at bytes n k lows (omega arith) in
+    let behind = address_at bytes n (k + 1) lows (omega arith) in
     let lower = rises k (omega arith) in
     let same = ap (λ p. number_at bytes p) before in
     let same_behind = ap (λ p. number_at bytes p) at in
@@ -113,43 +132,33 @@ ascending_placed bytes n rises = λ place second within entry.
 -- ---- what whole entries spell
 
 -- whole entries of numbers of the field, by ascending addresses, spell the cells at their places
-SpellsMemory-from_numbers : (bytes : List ℕ) → HasMemoryLength bytes → AreNumbersBefore bytes (length bytes) → AscendsBefore bytes (length bytes) → SpellsMemory bytes (cells_in bytes)
+pub SpellsMemory-from_numbers : (bytes : List ℕ) → HasMemoryLength bytes → AreNumbersBefore bytes (length bytes) → AscendsBefore bytes (length bytes) → SpellsMemory bytes (cells_in bytes)
 unfolding cells_in
 SpellsMemory-from_numbers bytes size numbers ascends =
     let end : length bytes ≡ 16 * (length bytes / 16) = omega (arith, size.whole) in
     record {
       parts = sym (spelled_back 16 cell_at cell_bytes bytes (cell_reads bytes numbers) 0 (length bytes / 16) (omega arith) ∙ (let all : 16 * (length bytes / 16) ≡ length bytes = omega (arith, size.whole) in rw all (take-length bytes)));
       most = omega (arith, length-cells_in bytes, size.most);
-      numbers = AllByRecursion-map_range IsCell (cell_at bytes) 0 (length bytes / 16) (λ i from within. cell_fits bytes numbers i (omega arith));
-      ascending = ascending_listed bytes (length bytes / 16) (subst (AscendsBefore bytes) end ascends);
+      ascending = ascending_listed bytes (length bytes / 16) (low_addresses bytes (length bytes / 16) numbers (omega arith)) (subst (AscendsBefore bytes) end ascends);
     }
 
--- the numbers of cells, in the order in which they are written
-abbrev cell_numbers : Cell → List ℕ
-cell_numbers c = c.addr ∷ c.value ∷ []
-
-memory_bytes-numbers : (cells : List Cell) → memory_bytes cells ≡ flat_map number_bytes (flat_map cell_numbers cells)
-memory_bytes-numbers [] = refl
-memory_bytes-numbers (c ∷ rest) =
-    append_assoc (number_bytes c.addr) (number_bytes c.value) (memory_bytes rest)
-    ∙ ap (λ bytes. number_bytes c.addr ++ (number_bytes c.value ++ bytes)) (memory_bytes-numbers rest)
-
-cell_numbers-fit : (cells : List Cell) → AllByRecursion IsCell cells → AllByRecursion (λ n. n < prime) (flat_map cell_numbers cells)
-cell_numbers-fit [] fit = tt
-cell_numbers-fit (c ∷ rest) fit = (fit.0.addr, (fit.0.value, cell_numbers-fit rest fit.1))
+pair_values-low : (cells : List Pair) → AllByRecursion (λ n. n < prime) (flat_map pair_values cells)
+pair_values-low [] = tt
+pair_values-low (c ∷ rest) = (c.addr.in_field, (c.value.in_field, pair_values-low rest))
 
 -- the numbers of bytes that spell cells are of the field, and their addresses ascend
-numbers_of_spelled : (bytes : List ℕ) (cells : List Cell) → SpellsMemory bytes cells → AreNumbersBefore bytes (length bytes)
+numbers_of_spelled : (bytes : List ℕ) (cells : List Pair) → SpellsMemory bytes cells → AreNumbersBefore bytes (length bytes)
 numbers_of_spelled bytes cells spells =
-    subst (λ b. AreNumbersBefore b (length b)) (sym (spells.parts ∙ memory_bytes-numbers cells))
-    (numbers_stand (flat_map cell_numbers cells) (cell_numbers-fit cells spells.numbers))
+    subst (λ b. AreNumbersBefore b (length b)) (sym (spells.parts ∙ sym (flat_map-flat_map number_bytes pair_values cells)))
+    (numbers_stand (flat_map pair_values cells) (pair_values-low cells))
 
-ascends_of_spelled : (bytes : List ℕ) (cells : List Cell) → SpellsMemory bytes cells → AscendsBefore bytes (length bytes)
+ascends_of_spelled : (bytes : List ℕ) (cells : List Pair) → SpellsMemory bytes cells → AscendsBefore bytes (length bytes)
 unfolding cells_in
 ascends_of_spelled bytes cells spells =
     let end : 16 * (length bytes / 16) ≡ length bytes = omega (arith, length-spelled_memory bytes cells spells) in
-    let rises = subst (λ cs. IsStrictlyIncreasing (cell_addresses cs)) (sym (cells_in-spelled bytes cells spells)) spells.ascending in
-    subst (AscendsBefore bytes) end (ascending_placed bytes (length bytes / 16) rises)
+    let rises = subst (λ cs. IsStrictlyIncreasing (addresses cs)) (sym (cells_in-spelled bytes cells spells)) spells.ascending in
+    let lows = low_addresses bytes (length bytes / 16) (numbers_of_spelled bytes cells spells) (omega arith) in
+    subst (AscendsBefore bytes) end (ascending_placed bytes (length bytes / 16) lows rises)
 
 -- ---- the first address out of order
 
@@ -228,7 +237,7 @@ module _ (bytes : List ℕ) (whole : length bytes % 16 ≡ 0) where
 -- ---- what the bytes are read as
 
 -- bytes that spell cells are read as these
-pub memory_reading-spelled : (bytes : List ℕ) (cells : List Cell) → SpellsMemory bytes cells → memory_reading bytes ≡ Ok cells
+pub memory_reading-spelled : (bytes : List ℕ) (cells : List Pair) → SpellsMemory bytes cells → memory_reading bytes ≡ Ok cells
 unfolding memory_reading
 memory_reading-spelled bytes cells spells =
     let size = length-spelled_memory bytes cells spells in
@@ -239,7 +248,7 @@ memory_reading-spelled bytes cells spells =
     rw (short, whole, numbers, ascends, cells_in-spelled bytes cells spells) refl
 
 -- the first number outside the field is told where the entries before its own ascend
-number_comes_first : (bytes : List ℕ) (place : ℕ) → place % 8 ≡ 0 → AscendsBefore bytes (entry_of place) → (o : Option ℕ) → MatchOption o (AscendsBefore bytes (length bytes)) (IsFirstDisorder bytes) → (cells : List Cell) → cells_unless (Some place) o cells ≡ Err (NotField place)
+number_comes_first : (bytes : List ℕ) (place : ℕ) → place % 8 ≡ 0 → AscendsBefore bytes (entry_of place) → (o : Option ℕ) → MatchOption o (AscendsBefore bytes (length bytes)) (IsFirstDisorder bytes) → (cells : List Pair) → cells_unless (Some place) o cells ≡ Err (NotField place)
 number_comes_first bytes place eighth ascends None is cells = refl
 number_comes_first bytes place eighth ascends (Some entry) is cells =
     elim (cases_lt place (entry + 16)) [
@@ -248,7 +257,7 @@ number_comes_first bytes place eighth ascends (Some entry) is cells =
     ]
 
 -- the first address out of order is told where the numbers up to the end of its entry are of the field
-order_comes_first : (bytes : List ℕ) (entry : ℕ) → AreNumbersBefore bytes (entry + 16) → (o : Option ℕ) → MatchOption o (AreNumbersBefore bytes (length bytes)) (IsFirstNotField bytes) → (cells : List Cell) → cells_unless o (Some entry) cells ≡ Err (Order entry)
+order_comes_first : (bytes : List ℕ) (entry : ℕ) → AreNumbersBefore bytes (entry + 16) → (o : Option ℕ) → MatchOption o (AreNumbersBefore bytes (length bytes)) (IsFirstNotField bytes) → (cells : List Pair) → cells_unless o (Some entry) cells ≡ Err (Order entry)
 order_comes_first bytes entry numbers None is cells = refl
 order_comes_first bytes entry numbers (Some place) is cells =
     elim (cases_lt place (entry + 16)) [
@@ -275,7 +284,7 @@ memory_reading-fault bytes (Order entry) is =
 memory_reading-fault bytes Memory is = absurd is
 
 -- what the bytes are read as is what they spell, or their fault
-abbrev TellsMemory : List ℕ → Result (List Cell) FileFault → Type 0
+abbrev TellsMemory : List ℕ → Result (List Pair) FileFault → Type 0
 TellsMemory bytes reading = MatchResult reading (SpellsMemory bytes) (IsMemoryFault bytes)
 
 told_earlier : (bytes : List ℕ) → HasMemoryLength bytes → (place entry : ℕ) → IsFirstNotField bytes place → IsFirstDisorder bytes entry → (earlier : Bool) → nat_lt place (entry + 16) ≡ earlier → TellsMemory bytes (cond earlier (Err (NotField place)) (Err (Order entry)))
@@ -309,135 +318,83 @@ pub memory_reading-told : (bytes : List ℕ) → TellsMemory bytes (memory_readi
 unfolding memory_reading
 memory_reading-told bytes = told_limit bytes (nat_lt memory_limit (length bytes)) refl
 
-pub SpellsMemory-from_reading : (bytes : List ℕ) (cells : List Cell) → memory_reading bytes ≡ Ok cells → SpellsMemory bytes cells
+pub SpellsMemory-from_reading : (bytes : List ℕ) (cells : List Pair) → memory_reading bytes ≡ Ok cells → SpellsMemory bytes cells
 SpellsMemory-from_reading bytes cells read = subst (TellsMemory bytes) read (memory_reading-told bytes)
 
 pub IsMemoryFault-from_reading : (bytes : List ℕ) (fault : FileFault) → memory_reading bytes ≡ Err fault → IsMemoryFault bytes fault
 IsMemoryFault-from_reading bytes fault read = subst (TellsMemory bytes) read (memory_reading-told bytes)
 
 -- bytes that spell cells have no fault
-pub memory_has_no_fault : (bytes : List ℕ) (cells : List Cell) (fault : FileFault) → SpellsMemory bytes cells → IsMemoryFault bytes fault → ⊥
+pub memory_has_no_fault : (bytes : List ℕ) (cells : List Pair) (fault : FileFault) → SpellsMemory bytes cells → IsMemoryFault bytes fault → ⊥
 memory_has_no_fault bytes cells fault spells is =
-    let both : ◌≡◌ {A = Result (List Cell) FileFault} (Ok cells) (Err fault) = sym (memory_reading-spelled bytes cells spells) ∙ memory_reading-fault bytes fault is in
+    let both : ◌≡◌ {A = Result (List Pair) FileFault} (Ok cells) (Err fault) = sym (memory_reading-spelled bytes cells spells) ∙ memory_reading-fault bytes fault is in
     cc
 
--- what the reader of a memory tells
-abbrev pub MemoryRead : {V : Type 0} → (V → List Cell) → List ℕ → Result V FileFault → Type 0
-MemoryRead view bytes r = MatchResult r (λ v. SpellsMemory bytes (view v)) (λ fault. fault ≢ Memory → IsMemoryFault bytes fault)
-
--- where bytes spell cells, a reader can only answer these or want of memory
-pub memory_read_all : {V : Type 0} (view : V → List Cell) (bytes : List ℕ) (r : Result V FileFault) → MemoryRead view bytes r → (cells : List Cell) → SpellsMemory bytes cells → MatchResult r (λ v. view v ≡ cells) (λ fault. fault ≡ Memory)
-memory_read_all view bytes (Ok v) told cells spells = memory_is_unique bytes (view v) cells told spells
-memory_read_all view bytes (Err TooMany) told cells spells = absurd (memory_has_no_fault bytes cells TooMany spells (told (λ e. cc)))
-memory_read_all view bytes (Err Length) told cells spells = absurd (memory_has_no_fault bytes cells Length spells (told (λ e. cc)))
-memory_read_all view bytes (Err (NotField place)) told cells spells = absurd (memory_has_no_fault bytes cells (NotField place) spells (told (λ e. cc)))
-memory_read_all view bytes (Err (Order place)) told cells spells = absurd (memory_has_no_fault bytes cells (Order place) spells (told (λ e. cc)))
-memory_read_all view bytes (Err Memory) told cells spells = refl
-
 -- where bytes spell cells, a fault can only be want of memory
-pub memory_fault_all : {V : Type 0} (view : V → List Cell) (bytes : List ℕ) (fault : FileFault) → (fault ≢ Memory → IsMemoryFault bytes fault) → (cells : List Cell) → SpellsMemory bytes cells → fault ≡ Memory
-memory_fault_all view bytes fault told cells spells = memory_read_all view bytes (Err fault) told cells spells
-
--- what the reader of a memory tells is what the bytes are read as, unless memory runs out
-pub memory_read_reading : {V : Type 0} (view : V → List Cell) (bytes : List ℕ) (r : Result V FileFault) → MemoryRead view bytes r → MatchResult r (λ v. memory_reading bytes ≡ Ok (view v)) (λ fault. fault ≢ Memory → memory_reading bytes ≡ Err fault)
-memory_read_reading view bytes (Ok v) told = memory_reading-spelled bytes (view v) told
-memory_read_reading view bytes (Err fault) told = λ other. memory_reading-fault bytes fault (told other)
+pub memory_fault_all : (bytes : List ℕ) (fault : FileFault) → IsMemoryFault bytes fault → (cells : List Pair) → SpellsMemory bytes cells → fault ≡ Memory
+memory_fault_all bytes fault told cells spells = absurd (memory_has_no_fault bytes cells fault spells told)
 
 -- ---- reading from the front
 
--- the fault of a number of an entry, where the entries before it ascend, is that of the memory
-pub number_fault : (bytes : List ℕ) (i : ℕ) (fault : FileFault) → HasMemoryLength bytes → AscendsBefore bytes (16 * i) → IsNumberFault bytes (16 * i) (16 * i + 16) fault → IsMemoryFault bytes fault
-number_fault bytes i fault size ascends is =
-    subst (IsMemoryFault bytes) (sym is.told)
-    (size, is.first, λ p second within multiple. ascends p second (omega (arith, is.above, is.below)) multiple)
+-- a number of an entry that is none of the field, where the entries before it ascend, is the fault of the memory
+pub number_fault : (bytes : List ℕ) (i place : ℕ) (fault : FileFault) → HasMemoryLength bytes → AscendsBefore bytes (16 * i) → 16 * i ≤ place → place < 16 * i + 16 → fault ≡ NotField place → IsFirstNotField bytes place → IsMemoryFault bytes fault
+number_fault bytes i place fault size ascends above below told first =
+    subst (IsMemoryFault bytes) (sym told)
+    (size, first, λ p second within multiple. ascends p second (omega (arith, above, below)) multiple)
 
--- the fault of an address that isn't above the one before
-pub order_fault : (bytes : List ℕ) (i : ℕ) → HasMemoryLength bytes → i < length bytes / 16 → AscendsBefore bytes (16 * i) → AreNumbersBefore bytes (16 * i + 16) → (AscendsAt bytes (16 * i) → ⊥) → IsMemoryFault bytes (Order (16 * i))
-order_fault bytes i size within ascends numbers falls =
-    let fails = disorder-from_test bytes (16 * i) (false_from_ne_true _ (λ holds. falls (AscendsAt-from_test bytes (16 * i) holds))) in
-    (size, record { entry = omega arith; second = fails.0; within = omega arith; not_above = fails.1; before = ascends }, numbers)
+-- an address that isn't above the one before is the fault
+pub order_fault : (bytes : List ℕ) (i : ℕ) → HasMemoryLength bytes → 0 < i → 16 * i + 16 ≤ length bytes → AscendsBefore bytes (16 * i) → AreNumbersBefore bytes (16 * i + 16) → number_at bytes (16 * i) ≤ number_at bytes (16 * i - 16) → IsMemoryFault bytes (Order (16 * i))
+order_fault bytes i size second within ascends numbers falls =
+    (size, record { entry = omega arith; second = omega arith; within = omega arith; not_above = falls; before = ascends }, numbers)
 
 -- one more address, above the last
-pub ascends_more : (bytes : List ℕ) (i : ℕ) → AscendsBefore bytes (16 * i) → AscendsAt bytes (16 * i) → AscendsBefore bytes (16 * (i + 1))
+pub ascends_more : (bytes : List ℕ) (i : ℕ) → AscendsBefore bytes (16 * i) → (0 < i → number_at bytes (16 * i - 16) < number_at bytes (16 * i)) → AscendsBefore bytes (16 * i + 16)
 ascends_more bytes i ascends here = λ place second within entry.
     elim (cases_lt place (16 * i)) [
       | inl earlier ↦ ascends place second earlier entry
-      | inr not_earlier ↦ let same : 16 * i ≡ place = omega arith in subst (AscendsAt bytes) same here second
+      | inr not_earlier ↦ let same : 16 * i ≡ place = omega arith in subst (AscendsAt bytes) same (λ late. here (omega arith)) second
     ]
 
--- the last address that was read, in the code's list and at its place
-module _ (bytes : List ℕ) (i : ℕ) (xs ys : List Pair) (pair : Pair) (same : ys ≡ xs) (read : as_cells xs ≡ map (cell_at bytes) (range_with_len 0 i)) (here : as_cell pair ≡ cell_at bytes i) where
-  same_addresses : cell_addresses (as_cells ys) ≡ cell_addresses (map (cell_at bytes) (range_with_len 0 i))
-  same_addresses = ap (λ list. cell_addresses (as_cells list)) same ∙ ap cell_addresses read
+-- the entries before the end are all of them
+pub entries_end : (bytes : List ℕ) (i : ℕ) → HasMemoryLength bytes → length bytes / 16 ≤ i → AreNumbersBefore bytes (16 * i) → AscendsBefore bytes (16 * i) → SpellsMemory bytes (cells_in bytes)
+entries_end bytes i size end numbers ascends =
+    SpellsMemory-from_numbers bytes size
+    (λ place lower eighth. numbers place (omega (arith, size.whole)) eighth)
+    (λ place second lower entry. ascends place second (omega (arith, size.whole)) entry)
 
-  same_address : pair.addr.number ≡ number_at bytes (16 * i)
-  unfolding cell_at
-  same_address = ap (λ (c : Cell). c.addr) here
+-- ---- the records of a memory file
 
-  last_address : 1 ≤ i → slice_index (cell_addresses (as_cells ys)) (i - 1) ≡ number_at bytes (16 * i - 16)
-  last_address one =
-      let place : 16 * (i - 1) ≡ 16 * i - 16 = omega arith in
-      ap (λ numbers. slice_index numbers (i - 1)) same_addresses ∙ address_at bytes i (i - 1) (omega arith) ∙ ap (λ p. number_at bytes p) place
+cell_there : (bytes : List ℕ) (i : ℕ) → pair_of_bytes (take 16 (drop (16 * i) bytes)) ≡ cell_at bytes i
+unfolding pair_of_bytes pair_of_values records_in value_of_bytes cell_at
+cell_there bytes i =
+    let a : number_at (take 16 (drop (16 * i) bytes)) 0 ≡ number_at bytes (16 * i) = number_in_chunk 16 (16 * i) 0 (16 * i) bytes (omega arith) (omega arith) in
+    let v : number_at (take 16 (drop (16 * i) bytes)) 8 ≡ number_at bytes (16 * i + 8) = number_in_chunk 16 (16 * i) 8 (16 * i + 8) bytes (omega arith) refl in
+    λ k. cell (felt (a k)) (felt (v k))
 
-  pub AscendsAt-from_last : LastBelow (cell_addresses (as_cells ys)) pair.addr.number → AscendsAt bytes (16 * i)
-  AscendsAt-from_last below = λ second.
-      let size : length (cell_addresses (as_cells ys)) ≡ i = ap length same_addresses ∙ length-addresses_at bytes i in
-      omega (arith, below (i - 1) (omega arith), last_address (omega arith), same_address)
+-- the records that are read are the cells at their places
+pub cells_are_read : (bytes : List ℕ) (n : ℕ) (cells : List Pair) → n ≡ length bytes / 16 → cells ≡ records_in 16 pair_of_bytes n bytes → cells ≡ cells_in bytes
+unfolding cells_in
+cells_are_read bytes n cells count same =
+    same
+    ∙ (records_at 16 pair_of_bytes n 0 bytes
+    ∙ (same_map_range (λ i. pair_of_bytes (take 16 (drop (16 * i) bytes))) (cell_at bytes) 0 n (λ i from within. cell_there bytes i)
+    ∙ ap (λ m. map (cell_at bytes) (range_with_len 0 m)) count))
 
-  pub LastBelow-from_ascends : AscendsAt bytes (16 * i) → LastBelow (cell_addresses (as_cells ys)) pair.addr.number
-  LastBelow-from_ascends ascends = λ k at.
-      let size : length (cell_addresses (as_cells ys)) ≡ i = ap length same_addresses ∙ length-addresses_at bytes i in
-      let last : k ≡ i - 1 = omega arith in
-      rw last (omega (arith, ascends (omega arith), last_address (omega arith), same_address))
-
--- the address of a pair in the list
-pub address_of_pair : (pairs : List Pair) (k : ℕ) (pair : Pair) → slice_get pairs k ≡ Some pair → slice_index (cell_addresses (as_cells pairs)) k ≡ pair.addr.number
-address_of_pair pairs k pair held =
-    get_or_from_slice_get (cell_addresses (as_cells pairs)) k pair.addr.number 0
-    (slice_get-map (λ c. c.addr) (as_cells pairs) k ∙ ap (λ o. option_map (λ c. c.addr) o) (slice_get-map as_cell pairs k ∙ ap (λ o. option_map as_cell o) held))
-
-pub length-addresses : (pairs : List Pair) → length (cell_addresses (as_cells pairs)) ≡ length pairs
-length-addresses pairs = simp (length-map) refl
-
--- what the last pair says of the addresses
-pub LastBelow-last : (pairs : List Pair) (last : Pair) (x : ℕ) → Some last ≡ slice_get pairs (length pairs - 1) → (last.addr.number < x) ↔ LastBelow (cell_addresses (as_cells pairs)) x
-LastBelow-last pairs last x held =
-    let within : length pairs - 1 < length pairs = slice_get_within pairs (length pairs - 1) last (sym held) in
-    let size = length-addresses pairs in
-    let address_last = address_of_pair pairs (length pairs - 1) last (sym held) in (
-      (λ lower k at.
-          let place : k ≡ length pairs - 1 = omega arith in
-          rw (place, address_last) lower),
-      (λ below. rw address_last at (below (length pairs - 1) (omega arith))),
-    )
-
--- the numbers of the code's pairs are of the field
-pub pairs_fit : (pairs : List Pair) → AllByRecursion IsCell (as_cells pairs)
-pairs_fit [] = tt
-pairs_fit (x ∷ rest) = (record { addr = x.addr.in_field; value = x.value.in_field }, pairs_fit rest)
+pub SpellsMemory-read : (bytes : List ℕ) (n : ℕ) (cells : List Pair) → n ≡ length bytes / 16 → cells ≡ records_in 16 pair_of_bytes n bytes → SpellsMemory bytes (cells_in bytes) → SpellsMemory bytes cells
+SpellsMemory-read bytes n cells count same spells =
+    subst (SpellsMemory bytes) (sym (cells_are_read bytes n cells count same)) spells
 
 -- written cells are spelled
-pub SpellsMemory-written : (cells : List Cell) → length cells ≤ most_cells → AllByRecursion IsCell cells → IsStrictlyIncreasing (cell_addresses cells) → SpellsMemory (memory_bytes cells) cells
-SpellsMemory-written cells most fit rises = record { parts = refl; most = most; numbers = fit; ascending = rises }
+pub SpellsMemory-written : (cells : List Pair) → length cells ≤ memory_cell_limit → IsStrictlyIncreasing (addresses cells) → SpellsMemory (memory_bytes cells) cells
+SpellsMemory-written cells most rises = record { parts = refl; most = most; ascending = rises }
 
--- the first cells of the bytes were read
-pub record HasReadCells (bytes : List ℕ) (i : ℕ) (pairs : List Pair) : Type 0 where
-  pub read : as_cells pairs ≡ map (cell_at bytes) (range_with_len 0 i)
-  pub numbers : AreNumbersBefore bytes (16 * i)
-  pub ascending : AscendsBefore bytes (16 * i)
+-- ---- the addresses of a list
 
--- all cells of the bytes were read
-pub SpellsMemory-from_all_read : (bytes : List ℕ) (i : ℕ) (pairs : List Pair) → HasMemoryLength bytes → HasReadCells bytes i pairs → i ≡ length bytes / 16 → SpellsMemory bytes (as_cells pairs)
-unfolding cells_in
-SpellsMemory-from_all_read bytes i pairs size has all =
-    let end : 16 * i ≡ length bytes = omega (arith, size.whole) in
-    let same : as_cells pairs ≡ cells_in bytes = has.read ∙ ap (λ n. map (cell_at bytes) (range_with_len 0 n)) all in
-    subst (SpellsMemory bytes) (sym same) (SpellsMemory-from_numbers bytes size (subst (AreNumbersBefore bytes) end has.numbers) (subst (AscendsBefore bytes) end has.ascending))
+-- the address of a cell in the list
+pub address_of_pair : (cells : List Pair) (k : ℕ) (c : Pair) → slice_get cells k ≡ Some c → slice_index (addresses cells) k ≡ c.addr.number
+address_of_pair cells k c held =
+    get_or_from_slice_get (addresses cells) k c.addr.number 0
+    (slice_get-map (λ (x : Pair). x.addr.number) cells k ∙ ap (λ o. option_map (λ (x : Pair). x.addr.number) o) held)
 
--- all cells were written
-pub SpellsMemory-from_all_written : (pairs : List Pair) (bytes : List ℕ) (i : ℕ) → bytes ≡ memory_bytes (as_cells (take i pairs)) → length pairs ≤ i → length pairs ≤ most_cells → IsStrictlyIncreasing (cell_addresses (as_cells pairs)) → SpellsMemory bytes (as_cells pairs)
-SpellsMemory-from_all_written pairs bytes i written all most rises =
-    let size : length (as_cells pairs) ≡ length pairs = simp (length-map) refl in
-    let whole : memory_bytes (as_cells pairs) ≡ bytes = sym (written ∙ ap (λ taken. memory_bytes (as_cells taken)) (take_all i pairs all)) in
-    subst (λ b. SpellsMemory b (as_cells pairs)) whole
-    (SpellsMemory-written (as_cells pairs) (omega arith) (pairs_fit pairs) rises)
+pub length-addresses : (cells : List Pair) → length (addresses cells) ≡ length cells
+length-addresses cells = simp (length-map) refl

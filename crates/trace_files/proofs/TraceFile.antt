@@ -1,6 +1,7 @@
 -- What the bytes of a trace file spell, and what is wrong with others.
 use Rattle.std.proofs.Common.{◌≡◌, ◌≢◌, ◌⊎◌, inl, inr, ℕ, ◌+◌, ◌*◌, ◌<◌, ◌≤◌, ◌/◌, ◌%◌, Bool, nat_lt, cond, List, ◌∷◌, ◌++◌, length, take, drop, map, refl, sym, ap, ◌∙◌, append_assoc, arith, length-append, take-add, subst}
-use Rattle.std.proofs.lemmas.List.{drop-drop, length-map, take_all}
+use Rattle.std.proofs.lemmas.List.{drop-drop, length-map}
+use Rattle.std.proofs.lemmas.Simd.{map-map}
 use Rattle.casm_word.specs.declared.State.{State}
 use Rattle.casm_word.specs.Transition.{Registers, registers}
 use Rattle.std.proofs.Common.{true, false, Some, None, Ok, Err, Option, Result, MatchOption, MatchResult, []}
@@ -9,14 +10,18 @@ use Rattle.std.proofs.lemmas.Bool.{and_from, and_parts, ltb-true, ltb-false, lt-
 use Rattle.std.specs.List.{flat_map, range_with_len, AllByRecursion}
 use Rattle.std.proofs.lemmas.List.FromFn.{length-map-range_with_len}
 use Rattle.goldilocks.specs.Field.{prime}
-use Rattle.goldilocks.specs.FileNumbers.{number_bytes, number_at}
+use Rattle.file_records.specs.Numbers.{number_bytes, number_at}
 use Rattle.trace_files.specs.declared.fault.FileFault.{FileFault}
 use Rattle.trace_files.specs.declared.fault.FileFault.TheVariants.{TooMany, Length, NotField, Order, Memory}
-use Rattle.trace_files.specs.FileNumbers.{AreNumbersBefore, IsFirstNotField, first_not_field}
-use Rattle.trace_files.specs.TraceFile.{trace_limit, state_bytes, state_at, IsState, states_in, trace_bytes, most_states, SpellsTrace, HasTraceLength, IsTraceFault, has_states, states_unless, trace_reading}
-use Rattle.trace_files.specs.Parts.{IsNumberFault}
-use Rattle.trace_files.proofs.Items.{IsLayout, length-spelled, spelled_back, found_again, AllByRecursion-map_range}
-use Rattle.trace_files.proofs.FileNumbers.{number_finds, numbers_stand, first_not_field-told, first_not_field-none, first_not_field-some}
+use Rattle.file_records.specs.Numbers.{AreNumbersBefore, IsFirstNotField, first_not_field}
+use Rattle.trace_files.specs.TraceFile.{trace_limit, state_bytes, state_at, IsState, states_in, trace_bytes, state_limit, SpellsTrace, HasTraceLength, IsTraceFault, has_states, states_unless, trace_reading}
+use Rattle.std.specs.Int.{w64, from_le_bytes}
+use Rattle.file_records.specs.Numbers.{numbers_bytes}
+use Rattle.file_records.specs.Records.{records_in, value_of_bytes, trace_state_values, trace_state_of_values, trace_state_of_bytes}
+use Rattle.file_records.proofs.RecordLists.{flat_map-flat_map}
+use Rattle.trace_files.proofs.Chunks.{low_number_in_chunk}
+use Rattle.file_records.proofs.Layouts.{IsLayout, length-spelled, spelled_back, found_again, AllByRecursion-map_range, records_at, same_map_range}
+use Rattle.file_records.proofs.FileNumbers.{number_finds, numbers_stand, first_not_field-told, first_not_field-none, first_not_field-some}
 
 -- 24 bytes are three times eight
 thirds : {X : Type 0} (p : ℕ) (bytes : List X) → take 24 (drop p bytes) ≡ take 8 (drop p bytes) ++ take 8 (drop (p + 8) bytes) ++ take 8 (drop (p + 16) bytes)
@@ -94,13 +99,6 @@ SpellsTrace-from_numbers bytes size numbers = record {
 abbrev state_numbers : Registers → List ℕ
 state_numbers s = s.ap ∷ s.fp ∷ s.pc ∷ []
 
-trace_bytes-numbers : (states : List Registers) → trace_bytes states ≡ flat_map number_bytes (flat_map state_numbers states)
-trace_bytes-numbers [] = refl
-trace_bytes-numbers (s ∷ rest) =
-    append_assoc (number_bytes s.ap ++ number_bytes s.fp) (number_bytes s.pc) (trace_bytes rest)
-    ∙ append_assoc (number_bytes s.ap) (number_bytes s.fp) (number_bytes s.pc ++ trace_bytes rest)
-    ∙ ap (λ bytes. number_bytes s.ap ++ (number_bytes s.fp ++ (number_bytes s.pc ++ bytes))) (trace_bytes-numbers rest)
-
 state_numbers-fit : (states : List Registers) → AllByRecursion IsState states → AllByRecursion (λ n. n < prime) (flat_map state_numbers states)
 state_numbers-fit [] fit = tt
 state_numbers-fit (s ∷ rest) fit = (fit.0.ap, (fit.0.fp, (fit.0.pc, state_numbers-fit rest fit.1)))
@@ -108,7 +106,7 @@ state_numbers-fit (s ∷ rest) fit = (fit.0.ap, (fit.0.fp, (fit.0.pc, state_numb
 -- the numbers of bytes that spell states are of the field
 numbers_of_spelled : (bytes : List ℕ) (states : List Registers) → SpellsTrace bytes states → AreNumbersBefore bytes (length bytes)
 numbers_of_spelled bytes states spells =
-    subst (λ b. AreNumbersBefore b (length b)) (sym (spells.parts ∙ trace_bytes-numbers states))
+    subst (λ b. AreNumbersBefore b (length b)) (sym (spells.parts ∙ sym (flat_map-flat_map number_bytes state_numbers states)))
     (numbers_stand (flat_map state_numbers states) (state_numbers-fit states spells.numbers))
 
 has_states-true : (size : ℕ) → size % 24 ≡ 0 → 48 ≤ size → has_states size ≡ true
@@ -188,27 +186,41 @@ trace_has_no_fault bytes states fault spells is =
     let both : ◌≡◌ {A = Result (List Registers) FileFault} (Ok states) (Err fault) = sym (trace_reading-spelled bytes states spells) ∙ trace_reading-fault bytes fault is in
     cc
 
--- what the reader of a trace tells
-abbrev pub TraceRead : {V : Type 0} → (V → List Registers) → List ℕ → Result V FileFault → Type 0
-TraceRead view bytes r = MatchResult r (λ v. SpellsTrace bytes (view v)) (λ fault. fault ≢ Memory → IsTraceFault bytes fault)
+-- where bytes spell states, a fault can only be want of memory
+pub trace_fault_all : (bytes : List ℕ) (fault : FileFault) → IsTraceFault bytes fault → (states : List Registers) → SpellsTrace bytes states → fault ≡ Memory
+trace_fault_all bytes fault told states spells = absurd (trace_has_no_fault bytes states fault spells told)
 
--- where bytes spell states, a reader can only answer these or want of memory
-pub trace_read_all : {V : Type 0} (view : V → List Registers) (bytes : List ℕ) (r : Result V FileFault) → TraceRead view bytes r → (states : List Registers) → SpellsTrace bytes states → MatchResult r (λ v. view v ≡ states) (λ fault. fault ≡ Memory)
-trace_read_all view bytes (Ok v) told states spells = trace_is_unique bytes (view v) states told spells
-trace_read_all view bytes (Err TooMany) told states spells = absurd (trace_has_no_fault bytes states TooMany spells (told (λ e. cc)))
-trace_read_all view bytes (Err Length) told states spells = absurd (trace_has_no_fault bytes states Length spells (told (λ e. cc)))
-trace_read_all view bytes (Err (NotField place)) told states spells = absurd (trace_has_no_fault bytes states (NotField place) spells (told (λ e. cc)))
-trace_read_all view bytes (Err (Order place)) told states spells = absurd (told (λ e. cc))
-trace_read_all view bytes (Err Memory) told states spells = refl
+-- a number that is none of the field is the fault of the trace
+pub trace_fault : (bytes : List ℕ) (place : ℕ) (fault : FileFault) → HasTraceLength bytes → fault ≡ NotField place → IsFirstNotField bytes place → IsTraceFault bytes fault
+trace_fault bytes place fault size told first = subst (IsTraceFault bytes) (sym told) (size, first)
 
--- what the reader of a trace tells is what the bytes are read as, unless memory runs out
-pub trace_read_reading : {V : Type 0} (view : V → List Registers) (bytes : List ℕ) (r : Result V FileFault) → TraceRead view bytes r → MatchResult r (λ v. trace_reading bytes ≡ Ok (view v)) (λ fault. fault ≢ Memory → trace_reading bytes ≡ Err fault)
-trace_read_reading view bytes (Ok v) told = trace_reading-spelled bytes (view v) told
-trace_read_reading view bytes (Err fault) told = λ other. trace_reading-fault bytes fault (told other)
+-- the numbers before the end are all of them
+pub numbers_end : (bytes : List ℕ) (k : ℕ) → HasTraceLength bytes → length bytes / 8 ≤ k → AreNumbersBefore bytes (8 * k) → AreNumbersBefore bytes (length bytes)
+numbers_end bytes k size end numbers = λ place lower eighth. numbers place (omega (arith, size.whole)) eighth
 
--- the fault of a state is that of the trace
-pub trace_fault : (bytes : List ℕ) (from to : ℕ) (fault : FileFault) → HasTraceLength bytes → IsNumberFault bytes from to fault → IsTraceFault bytes fault
-trace_fault bytes from to fault size is = subst (IsTraceFault bytes) (sym is.told) (size, is.first)
+-- ---- the records of a trace file
+
+state_there : (bytes : List ℕ) → AreNumbersBefore bytes (length bytes) → (i : ℕ) → 24 * i + 24 ≤ length bytes → registers (trace_state_of_bytes (take 24 (drop (24 * i) bytes))) ≡ state_at bytes i
+unfolding registers trace_state_of_bytes trace_state_of_values records_in value_of_bytes state_at
+state_there bytes numbers i fits =
+    let chunk = take 24 (drop (24 * i) bytes) in
+    let a : number_at chunk 0 % prime ≡ number_at bytes (24 * i) = low_number_in_chunk 24 (24 * i) 0 (24 * i) bytes (omega arith) (omega arith) (numbers (24 * i) (omega arith) (omega arith)).below in
+    let f : number_at chunk 8 % prime ≡ number_at bytes (24 * i + 8) = low_number_in_chunk 24 (24 * i) 8 (24 * i + 8) bytes (omega arith) refl (numbers (24 * i + 8) (omega arith) (omega arith)).below in
+    let c : number_at chunk 16 % prime ≡ number_at bytes (24 * i + 16) = low_number_in_chunk 24 (24 * i) 16 (24 * i + 16) bytes (omega arith) refl (numbers (24 * i + 16) (omega arith) (omega arith)).below in
+    let third : from_le_bytes w64 (take 8 (drop 8 (drop 8 chunk))) % prime ≡ number_at chunk 16 % prime = ap (λ xs. from_le_bytes w64 (take 8 xs) % prime) (drop-drop 8 8 chunk) in
+    same_state (record { pc = number_at bytes (24 * i + 16); ap = number_at bytes (24 * i); fp = number_at bytes (24 * i + 8) }) _ _ _ (third ∙ c) a f
+
+-- the records that are read are the states at their places
+pub states_are_read : (bytes : List ℕ) (n : ℕ) (states : List State) → AreNumbersBefore bytes (length bytes) → n ≡ length bytes / 24 → states ≡ records_in 24 trace_state_of_bytes n bytes → map registers states ≡ states_in bytes
+unfolding states_in
+states_are_read bytes n states numbers count same =
+    let listed : map registers states ≡ map registers (map (λ i. trace_state_of_bytes (take 24 (drop (24 * i) bytes))) (range_with_len 0 n)) = ap (λ xs. map registers xs) (same ∙ records_at 24 trace_state_of_bytes n 0 bytes) in
+    let placed : map (λ i. registers (trace_state_of_bytes (take 24 (drop (24 * i) bytes)))) (range_with_len 0 n) ≡ map (state_at bytes) (range_with_len 0 n) = same_map_range (λ i. registers (trace_state_of_bytes (take 24 (drop (24 * i) bytes)))) (state_at bytes) 0 n (λ i from within. state_there bytes numbers i (omega arith)) in
+    listed ∙ (rw map-map (placed ∙ ap (λ m. map (state_at bytes) (range_with_len 0 m)) count))
+
+pub SpellsTrace-read : (bytes : List ℕ) (n : ℕ) (states : List State) → AreNumbersBefore bytes (length bytes) → n ≡ length bytes / 24 → states ≡ records_in 24 trace_state_of_bytes n bytes → SpellsTrace bytes (states_in bytes) → SpellsTrace bytes (map registers states)
+SpellsTrace-read bytes n states numbers count same spells =
+    subst (SpellsTrace bytes) (sym (states_are_read bytes n states numbers count same)) spells
 
 -- the registers of the code's states are numbers of the field
 pub states_fit : (states : List State) → AllByRecursion IsState (map registers states)
@@ -217,26 +229,17 @@ states_fit [] = tt
 states_fit (s ∷ rest) = (record { pc = s.pc.in_field; ap = s.ap.in_field; fp = s.fp.in_field }, states_fit rest)
 
 -- written states are spelled
-pub SpellsTrace-written : (states : List Registers) → 2 ≤ length states → length states ≤ most_states → AllByRecursion IsState states → SpellsTrace (trace_bytes states) states
+pub SpellsTrace-written : (states : List Registers) → 2 ≤ length states → length states ≤ state_limit → AllByRecursion IsState states → SpellsTrace (trace_bytes states) states
 SpellsTrace-written states least most fit = record { parts = refl; least = least; most = most; numbers = fit }
 
--- the first states of the bytes were read
-pub record HasReadStates (bytes : List ℕ) (i : ℕ) (states : List State) : Type 0 where
-  pub read : map registers states ≡ map (state_at bytes) (range_with_len 0 i)
-  pub numbers : AreNumbersBefore bytes (24 * i)
+-- the records that are written are the states
+pub trace_bytes-written : (states : List State) → flat_map (λ s. numbers_bytes (trace_state_values s)) states ≡ trace_bytes (map registers states)
+unfolding registers
+trace_bytes-written [] = refl
+trace_bytes-written (s ∷ rest) = ap (λ bytes. numbers_bytes (trace_state_values s) ++ bytes) (trace_bytes-written rest)
 
--- all states of the bytes were read
-pub SpellsTrace-from_all_read : (bytes : List ℕ) (i : ℕ) (states : List State) → HasTraceLength bytes → HasReadStates bytes i states → i ≡ length bytes / 24 → SpellsTrace bytes (map registers states)
-unfolding states_in
-SpellsTrace-from_all_read bytes i states size has all =
-    let end : 24 * i ≡ length bytes = omega (arith, size.whole) in
-    let same : map registers states ≡ states_in bytes = has.read ∙ ap (λ n. map (state_at bytes) (range_with_len 0 n)) all in
-    subst (SpellsTrace bytes) (sym same) (SpellsTrace-from_numbers bytes size (subst (AreNumbersBefore bytes) end has.numbers))
-
--- all states were written
-pub SpellsTrace-from_all_written : (states : List State) (bytes : List ℕ) (i : ℕ) → bytes ≡ trace_bytes (map registers (take i states)) → length states ≤ i → 2 ≤ length states → length states ≤ most_states → SpellsTrace bytes (map registers states)
-SpellsTrace-from_all_written states bytes i written all least most =
+pub SpellsTrace-of_states : (states : List State) (bytes : List ℕ) → bytes ≡ trace_bytes (map registers states) → 2 ≤ length states → length states ≤ state_limit → SpellsTrace bytes (map registers states)
+SpellsTrace-of_states states bytes written least most =
     let size : length (map registers states) ≡ length states = simp (length-map) refl in
-    let whole : trace_bytes (map registers states) ≡ bytes = sym (written ∙ ap (λ taken. trace_bytes (map registers taken)) (take_all i states all)) in
-    subst (λ b. SpellsTrace b (map registers states)) whole
+    subst (λ b. SpellsTrace b (map registers states)) (sym written)
     (SpellsTrace-written (map registers states) (omega arith) (omega arith) (states_fit states))

@@ -1,10 +1,13 @@
 -- The definitions, tried on the files of a worked run of four steps, and on files with faults.
 use Rattle.std.proofs.Common.{◌≡◌, ℕ, List, [], ◌∷◌, ◌++◌, take, drop, Ok, Err, refl}
+use Rattle.goldilocks.specs.declared.Pair.{Pair}
+use Rattle.goldilocks.specs.Felts.{felt}
+use Rattle.goldilocks.specs.Cells.{cell}
 use Rattle.casm_word.specs.Transition.{Registers}
 use Rattle.trace_files.specs.declared.fault.FileFault.TheVariants.{Length, NotField, Order}
-use Rattle.trace_files.specs.FileNumbers.{is_number_at, first_failing_place}
+use Rattle.file_records.specs.Numbers.{is_number_at, first_failing_place}
 use Rattle.trace_files.specs.TraceFile.{state_at, states_in, trace_bytes, trace_reading}
-use Rattle.trace_files.specs.MemoryFile.{Cell, cell_at, cells_in, memory_bytes, ascends_at, memory_reading}
+use Rattle.trace_files.specs.MemoryFile.{cell_at, cells_in, memory_bytes, ascends_at, memory_reading}
 
 -- the bytes of the trace file
 abbrev worked_trace : List ℕ
@@ -32,16 +35,16 @@ worked_memory =
 abbrev state : ℕ → ℕ → ℕ → Registers
 state pc ap fp = record { pc = pc; ap = ap; fp = fp }
 
-abbrev cell : ℕ → ℕ → Cell
-cell addr value = record { addr = addr; value = value }
+abbrev at : ℕ → ℕ → Pair
+at addr value = cell (felt addr) (felt value)
 
 -- the states of the trace
 abbrev worked_states : List Registers
 worked_states = state 1 12 12 ∷ state 3 12 12 ∷ state 7 14 14 ∷ state 9 15 14 ∷ state 5 15 12 ∷ []
 
 -- the cells of the memory
-abbrev worked_cells : List Cell
-worked_cells = cell 1 290341444919459839 ∷ cell 2 0 ∷ cell 3 1226245742482522112 ∷ cell 4 4 ∷ cell 5 74168662805676031 ∷ cell 6 0 ∷ cell 7 5189976364521848832 ∷ cell 8 25 ∷ cell 9 2345108766317314046 ∷ cell 10 12 ∷ cell 11 0 ∷ cell 12 12 ∷ cell 13 5 ∷ cell 14 25 ∷ []
+abbrev worked_cells : List Pair
+worked_cells = at 1 290341444919459839 ∷ at 2 0 ∷ at 3 1226245742482522112 ∷ at 4 4 ∷ at 5 74168662805676031 ∷ at 6 0 ∷ at 7 5189976364521848832 ∷ at 8 25 ∷ at 9 2345108766317314046 ∷ at 10 12 ∷ at 11 0 ∷ at 12 12 ∷ at 13 5 ∷ at 14 25 ∷ []
 
 -- the trace spells its five states, and the memory its fourteen cells
 pub trace_is_read : trace_reading worked_trace ≡ Ok worked_states

@@ -1,8 +1,8 @@
-pub mod FileNumbers
 pub mod TraceFile
 pub mod MemoryFile
 pub mod CellList
 pub mod Faults
-pub mod Parts
 pub use Rattle.goldilocks.specs.Field
+pub use Rattle.goldilocks.specs.Cells
+pub use Rattle.file_records.specs.Numbers
 pub use Rattle.casm_word.specs.Transition

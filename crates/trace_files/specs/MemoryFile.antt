@@ -1,60 +1,37 @@
 -- Memory files: the cells of a memory, in the order of their addresses. Own.
-use Rattle.std.specs.Prelude.{◌≡◌, ◌≢◌, ℕ, ◌+◌, ◌-◌, ◌*◌, ◌/◌, ◌%◌, ◌<◌, ◌≤◌, ◌^◌, ◌==◌, Bool, ◌||◌, nat_lt, List, ◌++◌, length, map, Option, Some, None, option_map, Result, Ok, Err, if◌then◌else◌}
-use Rattle.std.specs.List.{flat_map, range_with_len, AllByRecursion, find}
+use Rattle.std.specs.Prelude.{◌≡◌, ◌≢◌, ℕ, ◌+◌, ◌-◌, ◌*◌, ◌/◌, ◌%◌, ◌<◌, ◌≤◌, ◌^◌, ◌==◌, Bool, ◌||◌, nat_lt, List, length, map, Option, Some, None, Result, Ok, Err, if◌then◌else◌}
+use Rattle.std.specs.List.{flat_map, range_with_len}
 use Rattle.std.specs.List.Sorted.{IsStrictlyIncreasing}
-use Rattle.goldilocks.specs.Field.{prime}
 use Rattle.goldilocks.specs.declared.Pair.{Pair}
-use Rattle.goldilocks.specs.FileNumbers.{number_bytes, number_at}
-use Rattle.casm_word.specs.Transition.{Memory}
+use Rattle.goldilocks.specs.Felts.{felt}
+use Rattle.goldilocks.specs.Cells.{cell, addresses}
+use Rattle.file_records.specs.Numbers.{numbers_bytes, number_at, AreNumbersBefore, IsFirstNotField, first_failing_place, first_not_field}
+use Rattle.file_records.specs.Records.{pair_values}
 use Rattle.trace_files.specs.declared.fault.FileFault.{FileFault}
-use Rattle.trace_files.specs.declared.fault.FileFault.TheVariants.{TooMany, Length, NotField, Order, Memory as NoMemory}
-use Rattle.trace_files.specs.FileNumbers.{AreNumbersBefore, IsFirstNotField, first_failing_place, first_not_field}
+use Rattle.trace_files.specs.declared.fault.FileFault.TheVariants.{TooMany, Length, NotField, Order, Memory}
 
 -- The most cells that a memory file may have. Own.
-abbrev pub most_cells : ℕ
-most_cells = 2 ^ 21
+abbrev pub memory_cell_limit : ℕ
+memory_cell_limit = 2 ^ 21
 
 -- The most bytes that a memory file may have. Own.
 abbrev pub memory_limit : ℕ
-memory_limit = 16 * most_cells
-
--- One cell of a memory. The whitepaper's parts on memory.
-pub record Cell : Type 0 where
-  pub addr : ℕ
-  pub value : ℕ
-
--- A pair of the code as a cell. Own.
-abbrev pub as_cell : Pair → Cell
-as_cell pair = record { addr = pair.addr.number; value = pair.value.number }
-
--- The pairs of the code as cells. Own.
-abbrev pub as_cells : List Pair → List Cell
-as_cells pairs = map as_cell pairs
+memory_limit = 16 * memory_cell_limit
 
 -- A cell as it stands in a memory file: its address, then its value. Own.
-abbrev pub cell_bytes : Cell → List ℕ
-cell_bytes c = number_bytes c.addr ++ number_bytes c.value
-
--- Address and value are numbers of the field. Own.
-pub record IsCell (c : Cell) : Type 0 where
-  pub addr : c.addr < prime
-  pub value : c.value < prime
-
--- The addresses, in the order of the cells. Own.
-abbrev pub cell_addresses : List Cell → List ℕ
-cell_addresses cells = map (λ c. c.addr) cells
+abbrev pub cell_bytes : Pair → List ℕ
+cell_bytes c = numbers_bytes (pair_values c)
 
 -- The bytes of the memory file of these cells. Own.
-abbrev pub memory_bytes : List Cell → List ℕ
+abbrev pub memory_bytes : List Pair → List ℕ
 memory_bytes cells = flat_map cell_bytes cells
 
 -- The bytes of a memory file spell these cells, one after another and nothing else. Each address is above the one
 -- before, and there are no more cells than a memory file may have. Own.
-pub record SpellsMemory (bytes : List ℕ) (cells : List Cell) : Type 0 where
+pub record SpellsMemory (bytes : List ℕ) (cells : List Pair) : Type 0 where
   pub parts : bytes ≡ memory_bytes cells
-  pub most : length cells ≤ most_cells
-  pub numbers : AllByRecursion IsCell cells
-  pub ascending : IsStrictlyIncreasing (cell_addresses cells)
+  pub most : length cells ≤ memory_cell_limit
+  pub ascending : IsStrictlyIncreasing (addresses cells)
 
 -- Each entry that begins before a place has an address above that of the entry before it, which begins 16 bytes
 -- earlier. Own.
@@ -87,14 +64,14 @@ IsMemoryFault bytes TooMany = memory_limit < length bytes
 IsMemoryFault bytes Length = (length bytes ≤ memory_limit) × (length bytes % 16 ≢ 0)
 IsMemoryFault bytes (NotField place) = HasMemoryLength bytes × IsFirstNotField bytes place × AscendsBefore bytes (entry_of place)
 IsMemoryFault bytes (Order place) = HasMemoryLength bytes × IsFirstDisorder bytes place × AreNumbersBefore bytes (place + 16)
-IsMemoryFault bytes NoMemory = ⊥
+IsMemoryFault bytes Memory = ⊥
 
 -- The cell with a number, counted from 0, where the bytes are cells one after another. Own.
-unfoldable pub cell_at : List ℕ → ℕ → Cell
-cell_at bytes i = record { addr = number_at bytes (16 * i); value = number_at bytes (16 * i + 8) }
+unfoldable pub cell_at : List ℕ → ℕ → Pair
+cell_at bytes i = cell (felt (number_at bytes (16 * i))) (felt (number_at bytes (16 * i + 8)))
 
 -- The cells at their places in the bytes, as many as fit: the only ones that the bytes can spell. Own.
-unfoldable pub cells_in : List ℕ → List Cell
+unfoldable pub cells_in : List ℕ → List Pair
 cells_in bytes = map (cell_at bytes) (range_with_len 0 (length bytes / 16))
 
 -- Whether the address at a place is above the one 16 bytes earlier, if there is one, as a test. Own.
@@ -107,19 +84,14 @@ first_disorder bytes = first_failing_place 16 (ascends_at bytes) bytes
 
 -- The cells, unless a number is none of the field or an address is out of order; of both the one that is met first
 -- entry by entry. Own.
-abbrev pub cells_unless : Option ℕ → Option ℕ → List Cell → Result (List Cell) FileFault
+abbrev pub cells_unless : Option ℕ → Option ℕ → List Pair → Result (List Pair) FileFault
 cells_unless None None cells = Ok cells
 cells_unless (Some place) None cells = Err (NotField place)
 cells_unless None (Some entry) cells = Err (Order entry)
 cells_unless (Some place) (Some entry) cells = if nat_lt place (entry + 16) then Err (NotField place) else Err (Order entry)
 
 -- What the bytes of a memory file are read as: the cells that they spell, or else their fault. Own.
-unfoldable pub memory_reading : List ℕ → Result (List Cell) FileFault
+unfoldable pub memory_reading : List ℕ → Result (List Pair) FileFault
 memory_reading bytes =
     if nat_lt memory_limit (length bytes) then Err TooMany
     else (if length bytes % 16 == 0 then cells_unless (first_not_field bytes) (first_disorder bytes) (cells_in bytes) else Err Length)
-
--- The memory of these cells: the value of the cell that has the address, and none elsewhere. The whitepaper's
--- parts on memory.
-unfoldable pub memory_of : List Cell → Memory
-memory_of cells address = option_map (λ c. c.value) (find (λ c. c.addr == address) cells)

@@ -1,24 +1,23 @@
 -- Trace files: the states of a run, one after another. Own.
-use Rattle.std.specs.Prelude.{◌≡◌, ◌≢◌, ◌⊎◌, ℕ, ◌+◌, ◌*◌, ◌/◌, ◌%◌, ◌<◌, ◌≤◌, ◌^◌, ◌==◌, Bool, ◌&&◌, nat_lt, nat_le, List, ◌++◌, length, map, Option, Some, None, Result, Ok, Err, if◌then◌else◌}
+use Rattle.std.specs.Prelude.{◌≡◌, ◌≢◌, ◌⊎◌, ℕ, ◌+◌, ◌*◌, ◌/◌, ◌%◌, ◌<◌, ◌≤◌, ◌^◌, ◌==◌, Bool, ◌&&◌, nat_lt, nat_le, List, [], ◌∷◌, length, map, Option, Some, None, Result, Ok, Err, if◌then◌else◌}
 use Rattle.std.specs.List.{flat_map, range_with_len, AllByRecursion}
 use Rattle.goldilocks.specs.Field.{prime}
-use Rattle.goldilocks.specs.FileNumbers.{number_bytes, number_at}
+use Rattle.file_records.specs.Numbers.{numbers_bytes, number_at, IsFirstNotField, first_not_field}
 use Rattle.casm_word.specs.Transition.{Registers}
 use Rattle.trace_files.specs.declared.fault.FileFault.{FileFault}
 use Rattle.trace_files.specs.declared.fault.FileFault.TheVariants.{TooMany, Length, NotField, Order, Memory}
-use Rattle.trace_files.specs.FileNumbers.{IsFirstNotField, first_not_field}
 
 -- The most states that a trace file may have: those of 2^20 steps. Own.
-abbrev pub most_states : ℕ
-most_states = 2 ^ 20 + 1
+abbrev pub state_limit : ℕ
+state_limit = 2 ^ 20 + 1
 
 -- The most bytes that a trace file may have. Own.
 abbrev pub trace_limit : ℕ
-trace_limit = 24 * most_states
+trace_limit = 24 * state_limit
 
 -- A state as it stands in a trace file: ap, fp, pc. Own.
 abbrev pub state_bytes : Registers → List ℕ
-state_bytes s = number_bytes s.ap ++ number_bytes s.fp ++ number_bytes s.pc
+state_bytes s = numbers_bytes (s.ap ∷ s.fp ∷ s.pc ∷ [])
 
 -- The registers hold numbers of the field. Own.
 pub record IsState (s : Registers) : Type 0 where
@@ -35,7 +34,7 @@ trace_bytes states = flat_map state_bytes states
 pub record SpellsTrace (bytes : List ℕ) (states : List Registers) : Type 0 where
   pub parts : bytes ≡ trace_bytes states
   pub least : 2 ≤ length states
-  pub most : length states ≤ most_states
+  pub most : length states ≤ state_limit
   pub numbers : AllByRecursion IsState states
 
 -- So many bytes may be a trace file: whole states, two at least, and no more than it may have. Own.

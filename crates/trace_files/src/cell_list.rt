@@ -3,13 +3,14 @@
 ghost use Rattle.std.specs.Prelude.{◌≡◌, ◌≤◌, ◌↔◌, IsTrue, IfSome, Contains, List, length};
 ghost use Rattle.std.specs.List.Sorted.{IsStrictlyIncreasing};
 ghost use Rattle.goldilocks.specs.declared.Pair.{Pair};
-ghost use Rattle.trace_files.specs.MemoryFile.{cell_addresses, as_cells, most_cells};
+ghost use Rattle.goldilocks.specs.Cells.{addresses};
+ghost use Rattle.trace_files.specs.MemoryFile.{memory_cell_limit};
 
 use casm_word::Reads;
 use goldilocks::{Felt, Pair};
 
 /// The most cells of a list.
-pub(crate) const MOST_CELLS: usize = 1 << 21;
+pub const MEMORY_CELL_LIMIT: usize = 1 << 21;
 
 /// The cells of a memory: their addresses ascend strictly, and there are at most 2^21.
 ///
@@ -17,15 +18,15 @@ pub(crate) const MOST_CELLS: usize = 1 << 21;
 #[derive(Debug, Drop)]
 pub struct CellList {
     pub(crate) cells: Vec<Pair>,
-    pub ghost ascending: { IsStrictlyIncreasing (cell_addresses (as_cells cells.items)) },
-    pub ghost most: { length cells.items ≤ most_cells },
+    pub ghost ascending: { IsStrictlyIncreasing (addresses cells.items) },
+    pub ghost most: { length cells.items ≤ memory_cell_limit },
 }
 
 impl Reads for CellList {
-    ghost use Rattle.trace_files.specs.MemoryFile.{memory_of, as_cells};
+    ghost use Rattle.goldilocks.specs.Cells.{memory_of};
     ghost use Rattle.trace_files.specs.CellList.{listed};
 
-    ghost cells = { λ list. memory_of (as_cells (listed list)) };
+    ghost cells = { λ list. memory_of (listed list) };
 
     fn read(&self, a: Felt) -> Option<Felt> {
         match likely_cell(&self.cells, a) {
@@ -37,7 +38,7 @@ impl Reads for CellList {
 
 impl CellList {
     ghost use Rattle.std.specs.Prelude.{IsSome, option_map};
-    ghost use Rattle.trace_files.specs.MemoryFile.{memory_of, as_cells};
+    ghost use Rattle.goldilocks.specs.Cells.{memory_of};
     ghost use Rattle.trace_files.specs.CellList.{listed, CanBeListed};
 
     /// The list of these cells, or `None` where their addresses don't ascend strictly or they are more than 2^21.
@@ -45,7 +46,7 @@ impl CellList {
         ensures some { IsSome result ↔ CanBeListed cells.items }
         ensures same { IfSome result (λ list. listed list ≡ cells.items) }
     {
-        if cells.len() <= MOST_CELLS && ascend(&cells) {
+        if cells.len() <= MEMORY_CELL_LIMIT && ascend(&cells) {
             Some(CellList { cells })
         } else {
             None
@@ -62,7 +63,7 @@ impl CellList {
 
     /// The value at an address, found by halves.
     fn search(&self, a: Felt) -> Option<Felt>
-        ensures { option_map (λ value. value.number) result ≡ memory_of (as_cells (listed self.now)) a.number }
+        ensures { option_map (λ value. value.number) result ≡ memory_of (listed self.now) a.number }
     {
         match self
             .cells
@@ -85,7 +86,7 @@ fn likely_cell(cells: &[Pair], a: Felt) -> Option<Pair>
 
 /// Whether each address is above the one before.
 fn ascend(cells: &[Pair]) -> bool
-    ensures { IsTrue result ↔ IsStrictlyIncreasing (cell_addresses (as_cells cells.now)) }
+    ensures { IsTrue result ↔ IsStrictlyIncreasing (addresses cells.now) }
 {
     for next in 1..cells.len() {
         if cells[next].addr.get() <= cells[next - 1].addr.get() {

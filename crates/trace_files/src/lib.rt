@@ -7,14 +7,12 @@
 mod cell_list;
 mod fault;
 mod file_numbers;
-pub mod laws;
+mod laws;
 mod memory_file;
 mod trace_file;
 
-pub use cell_list::CellList;
+pub use cell_list::{CellList, MEMORY_CELL_LIMIT};
 pub use fault::FileFault;
+pub use laws::{reading_laws, writing_laws};
 pub use memory_file::{MEMORY_LIMIT, read_memory, write_memory};
-pub use trace_file::{TRACE_LIMIT, read_trace, write_trace};
-
-#[cfg(test)]
-mod tests;
+pub use trace_file::{STATE_LIMIT, TRACE_LIMIT, read_trace, write_trace};

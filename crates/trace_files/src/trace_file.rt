@@ -1,24 +1,24 @@
 //! Trace files: the states of a run, in 24 bytes each.
 
-ghost use Rattle.std.specs.Prelude.{◌≡◌, ◌≢◌, ◌+◌, ◌*◌, ◌≤◌, ◌++◌, IfOk, IfErr, OnOk, MatchResult, List, Ok, Err, map, length};
+ghost use Rattle.std.specs.Prelude.{◌≡◌, ◌≢◌, ◌≤◌, IfOk, IfErr, OnOk, IsOk, MatchResult, List, Ok, Err, map, length};
 ghost use Rattle.casm_word.specs.Transition.{Registers, registers};
-ghost use Rattle.trace_files.specs.FileNumbers.{AreNumbersBefore};
-ghost use Rattle.trace_files.specs.TraceFile.{SpellsTrace, IsTraceFault, HasTraceLength, trace_bytes, trace_reading, most_states, state_at, state_bytes};
-ghost use Rattle.trace_files.specs.Parts.{IsNumberFault};
+ghost use Rattle.file_records.specs.Numbers.{AreNumbersBefore};
+ghost use Rattle.trace_files.specs.TraceFile.{SpellsTrace, IsTraceFault, states_in, trace_bytes, trace_reading, state_limit};
 
 use crate::FileFault;
-use crate::file_numbers::{felt_at, push_number};
+use crate::file_numbers::check_number;
 use casm_word::State;
+use file_records::{TraceState, read_records, write_records};
 use std::alloc::{AllocError, Global};
 
 /// The most states that a trace file may have: those of 2^20 steps.
-const MOST_STATES: usize = (1 << 20) + 1;
+pub const STATE_LIMIT: usize = (1 << 20) + 1;
 
 /// The bytes of a state.
 const STATE: usize = 24;
 
 /// The most bytes that a trace file may have.
-pub const TRACE_LIMIT: usize = STATE * MOST_STATES;
+pub const TRACE_LIMIT: usize = STATE * STATE_LIMIT;
 
 /// The states that the bytes of a trace file spell: of each ap, fp and pc, in 24 bytes, and nothing else.
 ///
@@ -27,7 +27,7 @@ pub const TRACE_LIMIT: usize = STATE * MOST_STATES;
 /// - [`FileFault::Length`], where they are no whole number of states, or less than two;
 /// - [`FileFault::NotField`], with the place of the first number of p or more.
 ///
-/// [`FileFault::Memory`] has no cause in the bytes.
+/// Memory is taken only for bytes that spell states, and once. So [`FileFault::Memory`] comes only for these.
 pub fn read_trace(alloc: Global, bytes: &[u8]) -> Result<Vec<State>, FileFault>
     ensures spelled { IfOk result (λ states. SpellsTrace bytes.now (map registers states.items)) }
     ensures fault { IfErr result (λ fault. fault ≢ FileFault.Memory → IsTraceFault bytes.now fault) }
@@ -39,6 +39,20 @@ pub fn read_trace(alloc: Global, bytes: &[u8]) -> Result<Vec<State>, FileFault>
     // The same, as the value of a function of the bytes.
     ensures reading { MatchResult result (λ states. trace_reading bytes.now ≡ Ok (map registers states.items))
         (λ fault. fault ≢ FileFault.Memory → trace_reading bytes.now ≡ Err fault) }
+
+    // Want of memory comes only where the bytes have no fault.
+    ensures memory { IfErr result (λ fault. fault ≡ FileFault.Memory → IsOk (trace_reading bytes.now)) }
+{
+    check(bytes)?;
+    let states = read_records::<TraceState>(alloc, bytes, bytes.len() / STATE)?;
+    Ok(states)
+}
+
+/// Whether the bytes spell states, with no memory; else their fault.
+fn check(bytes: &[u8]) -> Result<(), FileFault>
+    ensures spells { OnOk result (SpellsTrace bytes.now (states_in bytes.now)) }
+    ensures numbers { OnOk result (AreNumbersBefore bytes.now (length bytes.now)) }
+    ensures fault { IfErr result (IsTraceFault bytes.now) }
 {
     if bytes.len() > TRACE_LIMIT {
         return Err(FileFault::TooMany);
@@ -46,60 +60,21 @@ pub fn read_trace(alloc: Global, bytes: &[u8]) -> Result<Vec<State>, FileFault>
     if bytes.len() % STATE != 0 || bytes.len() < 2 * STATE {
         return Err(FileFault::Length);
     }
-    states_of(alloc, bytes)
-}
-
-/// The states of bytes that are states one after another.
-fn states_of(alloc: Global, bytes: &[u8]) -> Result<Vec<State>, FileFault>
-    requires { HasTraceLength bytes.now }
-    ensures spelled { IfOk result (λ states. SpellsTrace bytes.now (map registers states.items)) }
-    ensures fault { IfErr result (λ fault. fault ≢ FileFault.Memory → IsTraceFault bytes.now fault) }
-{
-    let count = bytes.len() / STATE;
-    let mut states = Vec::with_capacity(alloc, count)?;
-    for i in 0..count {
-        states.push(state_of(bytes, i)?)?;
+    for k in 0..bytes.len() / 8 {
+        check_number(bytes, 8 * k)?;
     }
-    Ok(states)
-}
-
-/// The state with the number `i`, where the numbers before it have been read.
-#[tactic(auto, unfolding(crate::specs::TraceFile::state_at, casm_word::specs::Transition::registers))]
-fn state_of(bytes: &[u8], i: usize) -> Result<State, FileFault>
-    requires within { 24 * i + 24 ≤ length bytes.now }
-    requires before { AreNumbersBefore bytes.now (24 * i) }
-    ensures state { IfOk result (λ state. registers state ≡ state_at bytes.now i) }
-    ensures goes_on { IfOk result (λ _. AreNumbersBefore bytes.now (24 * i + 24)) }
-    ensures fault { IfErr result (IsNumberFault bytes.now (24 * i) (24 * i + 24)) }
-{
-    let place = STATE * i;
-    let ap = felt_at(bytes, place)?;
-    let fp = felt_at(bytes, place + 8)?;
-    let pc = felt_at(bytes, place + 16)?;
-    Ok(State { pc, ap, fp })
+    Ok(())
 }
 
 /// The bytes of the trace file of the states: the only ones that spell them, and [`read_trace`] reads the states back.
 /// There are 2 to 2^20 + 1 states.
 pub fn write_trace(alloc: Global, states: &[State]) -> Result<Vec<u8>, AllocError>
     requires least { 2 ≤ length states.now }
-    requires most { length states.now ≤ most_states }
+    requires most { length states.now ≤ state_limit }
     ensures written { IfOk result (λ bytes. bytes.items ≡ trace_bytes (map registers states.now)) }
     ensures spells { IfOk result (λ bytes. SpellsTrace bytes.items (map registers states.now)) }
 {
     let mut bytes = Vec::with_capacity(alloc, STATE * states.len())?;
-    for state in states {
-        push_state(&mut bytes, *state)?;
-    }
+    write_records::<TraceState>(&mut bytes, states)?;
     Ok(bytes)
-}
-
-/// Appends the bytes of a state.
-#[tactic(auto, unfolding(casm_word::specs::Transition::registers))]
-fn push_state(bytes: &mut Vec<u8>, state: State) -> Result<(), AllocError>
-    ensures { OnOk result (bytes.new.items ≡ bytes.old.items ++ state_bytes (registers state)) }
-{
-    push_number(bytes, state.ap)?;
-    push_number(bytes, state.fp)?;
-    push_number(bytes, state.pc)
 }

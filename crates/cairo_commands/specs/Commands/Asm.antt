@@ -1,35 +1,23 @@
--- `asm TEXT PROGRAM`: an assembly text is assembled to a program file. Its words, its inputs, its answer, and what its
+-- `asm TEXT PROGRAM`: an assembly text is assembled to a program file. Its inputs, its answer, and what its
 -- endings mean. Own.
-use Rattle.std.specs.Prelude.{◌≡◌, ◌↔◌, ◌≤◌, ℕ, List, [], ◌∷◌, ◌++◌, length, Option, Some, None, Ok, if◌then◌else◌, codes}
+use Rattle.std.specs.Prelude.{◌≡◌, ◌↔◌, ◌≤◌, ℕ, List, [], ◌∷◌, ◌++◌, length, Option, Some, Ok, codes}
 use Rattle.std.specs.Fmt.{decimal}
 use Rattle.std.specs.FinMap.{insert}
 use Rattle.std.specs.Io.KnownBytes.{Appends}
 use Rattle.casm_statements.specs.declared.Item.{Item}
+use Rattle.casm_tokens.specs.Limits.{text_limit}
 use Rattle.casm_text.specs.Meaning.{Reads}
 use Rattle.assembler.specs.Faults.{HasNoFault}
 use Rattle.assembler.specs.Assembling.{Assembly, assembly_of}
 use Rattle.program_file.specs.Format.{written}
 use Rattle.file_port.specs.Files.{Name, Files, file_at}
-use Rattle.call_words.specs.Names.{are_names}
-use Rattle.cairo_commands.specs.declared.status.Status.{Status}
-use Rattle.cairo_commands.specs.declared.status.Status.TheVariants.{Done}
-use Rattle.cairo_commands.specs.Answer.{Answer, Input, Task}
-use Rattle.cairo_commands.specs.Request.{Request, Asm}
-use Rattle.cairo_commands.specs.Reading.{◌>>=◌, answered, read_as}
-use Rattle.cairo_commands.specs.Programs.{text_limit, text_input, text_read, listing_of}
+use Rattle.command_frame.specs.declared.status.Status.{Status}
+use Rattle.command_frame.specs.declared.status.Status.TheVariants.{Done}
+use Rattle.command_frame.specs.Answer.{Answer, Task}
+use Rattle.command_frame.specs.Formats.{◌>>=◌, answered, input_at, read_as}
+use Rattle.cairo_commands.specs.Programs.{text_format, listing_of}
 
--- ---- its words, its inputs and its line
-
--- The names after the word `asm`: a text and a program. Own.
-abbrev pub asm_request : List Name → Option Request
-asm_request (text ∷ program ∷ []) = if are_names (text ∷ []) (program ∷ []) then Some (Asm text program) else None
-asm_request [] = None
-asm_request (a ∷ []) = None
-asm_request (a ∷ b ∷ c ∷ more) = None
-
--- The assembly text: the first name. Own.
-abbrev pub asm_text : Name → Input
-asm_text text = text_input 1 text
+-- ---- its files and its line
 
 -- The line of a program of so many words. Own.
 abbrev pub asm_line : ℕ → List ℕ
@@ -48,13 +36,13 @@ program_answer program a = record {
 -- The text is read and assembled. Own.
 unfoldable pub asm_answer : Name → Name → Files → Answer
 asm_answer text program files = answered (do
-  a ← read_as text_read (asm_text text) files
+  a ← read_as text_format 1 text files
   Ok (program_answer program a))
 
 -- What `asm` reads, writes and answers. Own.
 abbrev pub asm_task : Name → Name → Task
 asm_task text program = record {
-  inputs = asm_text text ∷ [];
+  inputs = input_at text_format 1 text ∷ [];
   outputs = program ∷ [];
   answer = asm_answer text program;
 }

@@ -1,6 +1,6 @@
--- `check PROGRAM PUBLIC TABLES`: do tables meet every written constraint, and so describe a run of the program? Its words,
--- its inputs, its answer, and what its endings mean. Own, but where another source is named.
-use Rattle.std.specs.Prelude.{◌≡◌, ◌↔◌, ℕ, List, [], ◌∷◌, ◌++◌, length, Option, Some, None, Ok, if◌then◌else◌, codes}
+-- `check PROGRAM PUBLIC TABLES`: do tables meet every written constraint, and so describe a run of the program? Its inputs,
+-- its answer, and what its endings mean. Own, but where another source is named.
+use Rattle.std.specs.Prelude.{◌≡◌, ◌↔◌, ℕ, List, [], ◌∷◌, ◌++◌, length, Option, Ok, codes}
 use Rattle.std.specs.Fmt.{decimal}
 use Rattle.std.specs.Io.KnownBytes.{Appends}
 use Rattle.constraint_checker.specs.declared.Constraint.{Constraint}
@@ -11,37 +11,14 @@ use Rattle.constraint_checker.specs.Constraints.{MeetsAll}
 use Rattle.constraint_checker.specs.Verdict.{verdict}
 use Rattle.constraint_checker.specs.Acceptance.{DescribeRun}
 use Rattle.file_port.specs.Files.{Name, Files}
-use Rattle.call_words.specs.Names.{are_names}
-use Rattle.cairo_commands.specs.declared.status.Status.{Status}
-use Rattle.cairo_commands.specs.declared.status.Status.TheVariants.{Done, Refused}
-use Rattle.cairo_commands.specs.Answer.{Answer, Input, Task, says}
-use Rattle.cairo_commands.specs.Request.{Request, Check}
-use Rattle.cairo_commands.specs.Reading.{◌>>=◌, answered, read_as}
-use Rattle.cairo_commands.specs.Programs.{program_input, program_read, HoldsProgram}
-use Rattle.cairo_commands.specs.TableInputs.{public_input, public_read, HoldsPublic, tables_input, tables_read, HoldsColumns}
+use Rattle.command_frame.specs.declared.status.Status.{Status}
+use Rattle.command_frame.specs.declared.status.Status.TheVariants.{Done, Refused}
+use Rattle.command_frame.specs.Answer.{Answer, Task, says}
+use Rattle.command_frame.specs.Formats.{◌>>=◌, answered, input_at, read_as}
+use Rattle.cairo_commands.specs.Programs.{program_format, HoldsProgram}
+use Rattle.cairo_commands.specs.TableInputs.{public_format, HoldsPublic, tables_format, HoldsColumns}
 
--- ---- its words, its inputs and its lines
-
--- The names after the word `check`: a program, a public input and tables. Own.
-abbrev pub check_request : List Name → Option Request
-check_request (program ∷ public ∷ tables ∷ []) =
-    if are_names (program ∷ public ∷ tables ∷ []) [] then Some (Check program public tables) else None
-check_request [] = None
-check_request (a ∷ []) = None
-check_request (a ∷ b ∷ []) = None
-check_request (a ∷ b ∷ c ∷ d ∷ more) = None
-
--- The program: the first name. Own.
-abbrev pub check_program : Name → Input
-check_program program = program_input 1 program
-
--- The public input: the second name. Own.
-abbrev pub check_public : Name → Input
-check_public public = public_input 2 public
-
--- The tables: the third name. Own.
-abbrev pub check_tables : Name → Input
-check_tables tables = tables_input 3 tables
+-- ---- its files and its lines
 
 -- The line of tables of so many steps that are accepted. Own.
 abbrev pub accepted_line : ℕ → List ℕ
@@ -62,15 +39,15 @@ checked rows (verdict_is.Refused constraint row) = says Refused (refused_line co
 -- All three files are read, in the order of their names, and then the tables have their verdict. Own.
 unfoldable pub check_answer : Name → Name → Name → Files → Answer
 check_answer program public tables files = answered (do
-  p ← read_as program_read (check_program program) files
-  u ← read_as public_read (check_public public) files
-  t ← read_as tables_read (check_tables tables) files
+  p ← read_as program_format 1 program files
+  u ← read_as public_format 2 public files
+  t ← read_as tables_format 3 tables files
   Ok (checked (length t.rows) (verdict p u t)))
 
 -- What `check` reads and answers. Own.
 abbrev pub check_task : Name → Name → Name → Task
 check_task program public tables = record {
-  inputs = check_program program ∷ check_public public ∷ check_tables tables ∷ [];
+  inputs = input_at program_format 1 program ∷ input_at public_format 2 public ∷ input_at tables_format 3 tables ∷ [];
   outputs = [];
   answer = check_answer program public tables;
 }
@@ -87,7 +64,7 @@ pub record HoldsTables (program_name public_name tables_name : Name) (files : Fi
 -- constraint. Own.
 pub record MeetsConstraints (program public tables : Name) (files : Files) : Type 0 where
   pub held : HoldsTables program public tables files
-  pub meets : MeetsAll held.program.listed held.public.stated held.tables.columns
+  pub meets : MeetsAll held.program.value held.public.value held.tables.value
 
 -- The files are within their limits and spell a program, a public input and tables, and this constraint is the first
 -- that fails, at this row. Own.
@@ -95,7 +72,7 @@ pub record BreaksConstraint (program public tables : Name) (files : Files) : Typ
   pub held : HoldsTables program public tables files
   pub constraint : Constraint
   pub row : ℕ
-  pub first : verdict held.program.listed held.public.stated held.tables.columns ≡ verdict_is.Refused constraint row
+  pub first : verdict held.program.value held.public.value held.tables.value ≡ verdict_is.Refused constraint row
 
 -- What the endings of `check` mean. It ends with `Done` exactly where its files are within their limits and spell a
 -- program, a public input and tables, and the tables meet every written constraint. Then they describe a run of the
@@ -105,7 +82,7 @@ pub record BreaksConstraint (program public tables : Name) (files : Files) : Typ
 -- proof of a run shows.
 pub record CheckMeans (program public tables : Name) (files : Files) (status : Status) (before now : Option (List ℕ)) : Type 0 where
   pub accepted : (status ≡ Done) ↔ MeetsConstraints program public tables files
-  pub describes : (check : MeetsConstraints program public tables files) → DescribeRun check.held.program.listed check.held.public.stated check.held.tables.columns
-  pub accepted_line : (check : MeetsConstraints program public tables files) → Appends before now (accepted_line (length check.held.tables.columns.rows))
+  pub describes : (check : MeetsConstraints program public tables files) → DescribeRun check.held.program.value check.held.public.value check.held.tables.value
+  pub accepted_line : (check : MeetsConstraints program public tables files) → Appends before now (accepted_line (length check.held.tables.value.rows))
   pub refused : (status ≡ Refused) ↔ BreaksConstraint program public tables files
   pub refused_line : (check : BreaksConstraint program public tables files) → Appends before now (refused_line check.constraint check.row)

@@ -1,6 +1,6 @@
--- `dis PROGRAM TEXT`: the words of a program file are shown as an assembly text. Its words, its inputs, its answer, and
+-- `dis PROGRAM TEXT`: the words of a program file are shown as an assembly text. Its inputs, its answer, and
 -- what its endings mean. Own.
-use Rattle.std.specs.Prelude.{◌≡◌, ◌↔◌, ℕ, List, [], ◌∷◌, ◌++◌, length, Option, Some, None, Ok, if◌then◌else◌, codes}
+use Rattle.std.specs.Prelude.{◌≡◌, ◌↔◌, ℕ, List, [], ◌∷◌, ◌++◌, length, Option, Some, Ok, codes}
 use Rattle.std.specs.Fmt.{decimal}
 use Rattle.std.specs.FinMap.{insert}
 use Rattle.std.specs.Io.KnownBytes.{Appends}
@@ -9,26 +9,13 @@ use Rattle.casm_text.specs.Canonical.{printed}
 use Rattle.assembler.specs.Disassembly.{Disassembles}
 use Rattle.program_file.specs.Listing.{Listing}
 use Rattle.file_port.specs.Files.{Name, Files}
-use Rattle.call_words.specs.Names.{are_names}
-use Rattle.cairo_commands.specs.declared.status.Status.{Status}
-use Rattle.cairo_commands.specs.declared.status.Status.TheVariants.{Done}
-use Rattle.cairo_commands.specs.Answer.{Answer, Input, Task}
-use Rattle.cairo_commands.specs.Request.{Request, Dis}
-use Rattle.cairo_commands.specs.Reading.{◌>>=◌, answered, read_as}
-use Rattle.cairo_commands.specs.Programs.{program_input, program_read, HoldsProgram, items_of}
+use Rattle.command_frame.specs.declared.status.Status.{Status}
+use Rattle.command_frame.specs.declared.status.Status.TheVariants.{Done}
+use Rattle.command_frame.specs.Answer.{Answer, Task}
+use Rattle.command_frame.specs.Formats.{◌>>=◌, answered, input_at, read_as}
+use Rattle.cairo_commands.specs.Programs.{program_format, HoldsProgram, items_of}
 
--- ---- its words, its inputs and its line
-
--- The names after the word `dis`: a program and a text. Own.
-abbrev pub dis_request : List Name → Option Request
-dis_request (program ∷ text ∷ []) = if are_names (program ∷ []) (text ∷ []) then Some (Dis program text) else None
-dis_request [] = None
-dis_request (a ∷ []) = None
-dis_request (a ∷ b ∷ c ∷ more) = None
-
--- The program: the first name. Own.
-abbrev pub dis_program : Name → Input
-dis_program program = program_input 1 program
+-- ---- its files and its line
 
 -- The line of a text of so many words. Own.
 abbrev pub dis_line : ℕ → List ℕ
@@ -47,13 +34,13 @@ text_answer text p = record {
 -- The program is read and shown. Own.
 unfoldable pub dis_answer : Name → Name → Files → Answer
 dis_answer program text files = answered (do
-  p ← read_as program_read (dis_program program) files
+  p ← read_as program_format 1 program files
   Ok (text_answer text p))
 
 -- What `dis` reads, writes and answers. Own.
 abbrev pub dis_task : Name → Name → Task
 dis_task program text = record {
-  inputs = dis_program program ∷ [];
+  inputs = input_at program_format 1 program ∷ [];
   outputs = text ∷ [];
   answer = dis_answer program text;
 }
@@ -73,5 +60,5 @@ pub record WritesText (text : Name) (p : Listing) (files : Files) (after : Optio
 -- and now. Own.
 pub record DisMeans (program text : Name) (files : Files) (status : Status) (after : Option Files) (before now : Option (List ℕ)) : Type 0 where
   pub shown : (status ≡ Done) ↔ HoldsProgram program files
-  pub text_written : (dis : HoldsProgram program files) → WritesText text dis.listed files after
-  pub line : (dis : HoldsProgram program files) → Appends before now (dis_line (length dis.listed.words))
+  pub text_written : (dis : HoldsProgram program files) → WritesText text dis.value files after
+  pub line : (dis : HoldsProgram program files) → Appends before now (dis_line (length dis.value.words))

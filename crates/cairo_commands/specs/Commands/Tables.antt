@@ -1,10 +1,10 @@
 -- `tables PROGRAM PUBLIC TRACE MEMORY TABLES`: tables are built of a run, which is given by its trace and its memory. Its
--- words, its inputs, its answer, and what its endings mean. Own.
-use Rattle.std.specs.Prelude.{◌≡◌, ◌↔◌, ℕ, List, [], ◌∷◌, ◌++◌, length, Option, Some, None, Result, Ok, Err, if◌then◌else◌, codes}
+-- inputs, its answer, and what its endings mean. Own.
+use Rattle.std.specs.Prelude.{◌≡◌, ◌↔◌, ℕ, List, [], ◌∷◌, ◌++◌, length, Option, Some, Result, Ok, Err, codes}
 use Rattle.std.specs.Fmt.{decimal}
 use Rattle.std.specs.FinMap.{insert}
 use Rattle.std.specs.Io.KnownBytes.{Appends}
-use Rattle.trace_files.specs.MemoryFile.{memory_of}
+use Rattle.goldilocks.specs.Cells.{memory_of}
 use Rattle.table_file.specs.Tables.{Contents}
 use Rattle.table_file.specs.Spelling.{spelling}
 use Rattle.table_builder.specs.TablesOf.{AreTablesOf}
@@ -12,45 +12,16 @@ use Rattle.table_builder.specs.Findings.{Finding, FoundFirst, findings}
 use Rattle.table_builder.specs.Building.{building}
 use Rattle.table_builder.specs.Shown.{finding_text}
 use Rattle.file_port.specs.Files.{Name, Files}
-use Rattle.call_words.specs.Names.{are_names}
-use Rattle.cairo_commands.specs.declared.status.Status.{Status}
-use Rattle.cairo_commands.specs.declared.status.Status.TheVariants.{Done, Refused}
-use Rattle.cairo_commands.specs.Answer.{Answer, Input, Task, says}
-use Rattle.cairo_commands.specs.Request.{Request, Tables}
-use Rattle.cairo_commands.specs.Reading.{◌>>=◌, answered, read_as}
-use Rattle.cairo_commands.specs.Programs.{program_input, program_read, HoldsProgram}
-use Rattle.cairo_commands.specs.TableInputs.{public_input, public_read, HoldsPublic}
-use Rattle.cairo_commands.specs.RunFiles.{trace_input, trace_read, HoldsTrace, memory_input, cells_read, HoldsMemory}
+use Rattle.command_frame.specs.declared.status.Status.{Status}
+use Rattle.command_frame.specs.declared.status.Status.TheVariants.{Done, Refused}
+use Rattle.command_frame.specs.Answer.{Answer, Task, says}
+use Rattle.command_frame.specs.Formats.{◌>>=◌, answered, input_at, read_as}
+use Rattle.cairo_commands.specs.Programs.{program_format, HoldsProgram}
+use Rattle.cairo_commands.specs.TableInputs.{public_format, HoldsPublic}
+use Rattle.cairo_commands.specs.RunFiles.{trace_format, HoldsTrace, memory_format, HoldsMemory}
 use Rattle.cairo_commands.specs.Commands.Check.{MeetsConstraints}
 
--- ---- its words, its inputs and its lines
-
--- The names after the word `tables`: a program, a public input, a trace, a memory and tables. Own.
-abbrev pub tables_request : List Name → Option Request
-tables_request (program ∷ public ∷ trace ∷ memory ∷ tables ∷ []) =
-    if are_names (program ∷ public ∷ trace ∷ memory ∷ []) (tables ∷ []) then Some (Tables program public trace memory tables) else None
-tables_request [] = None
-tables_request (a ∷ []) = None
-tables_request (a ∷ b ∷ []) = None
-tables_request (a ∷ b ∷ c ∷ []) = None
-tables_request (a ∷ b ∷ c ∷ d ∷ []) = None
-tables_request (a ∷ b ∷ c ∷ d ∷ e ∷ f ∷ more) = None
-
--- The program: the first name. Own.
-abbrev pub tables_program : Name → Input
-tables_program program = program_input 1 program
-
--- The public input: the second name. Own.
-abbrev pub tables_public : Name → Input
-tables_public public = public_input 2 public
-
--- The trace: the third name. Own.
-abbrev pub tables_trace : Name → Input
-tables_trace trace = trace_input 3 trace
-
--- The memory: the fourth name. Own.
-abbrev pub tables_memory : Name → Input
-tables_memory memory = memory_input 4 memory
+-- ---- its files and its lines
 
 -- The line of tables of so many steps, in a file of so many bytes. Own.
 abbrev pub built_line : ℕ → ℕ → List ℕ
@@ -75,16 +46,16 @@ built_answer tables (Err found) = says Refused (refused_line found)
 -- All four files are read, in the order of their names, and then the tables are built. Own.
 unfoldable pub tables_answer : Name → Name → Name → Name → Name → Files → Answer
 tables_answer program public trace memory tables files = answered (do
-  p ← read_as program_read (tables_program program) files
-  u ← read_as public_read (tables_public public) files
-  states ← read_as trace_read (tables_trace trace) files
-  cells ← read_as cells_read (tables_memory memory) files
+  p ← read_as program_format 1 program files
+  u ← read_as public_format 2 public files
+  states ← read_as trace_format 3 trace files
+  cells ← read_as memory_format 4 memory files
   Ok (built_answer tables (building p u (memory_of cells) states)))
 
 -- What `tables` reads, writes and answers. Own.
 abbrev pub tables_task : Name → Name → Name → Name → Name → Task
 tables_task program public trace memory tables = record {
-  inputs = tables_program program ∷ tables_public public ∷ tables_trace trace ∷ tables_memory memory ∷ [];
+  inputs = input_at program_format 1 program ∷ input_at public_format 2 public ∷ input_at trace_format 3 trace ∷ input_at memory_format 4 memory ∷ [];
   outputs = tables ∷ [];
   answer = tables_answer program public trace memory tables;
 }
@@ -103,14 +74,14 @@ pub record HoldsRun (program_name public_name trace_name memory_name : Name) (fi
 pub record BuildsTables (program public trace memory : Name) (files : Files) : Type 0 where
   pub held : HoldsRun program public trace memory files
   pub columns : Contents
-  pub of_run : AreTablesOf held.program.listed held.public.stated (memory_of held.memory.cells) held.trace.states columns
+  pub of_run : AreTablesOf held.program.value held.public.value (memory_of held.memory.value) held.trace.value columns
 
 -- The files are within their limits and spell a program, a public input, states and cells, and this is the first thing
 -- that stands in the way of tables. Own.
 pub record RefusesTables (program public trace memory : Name) (files : Files) : Type 0 where
   pub held : HoldsRun program public trace memory files
   pub found : Finding
-  pub first : FoundFirst (findings held.program.listed held.public.stated (memory_of held.memory.cells) held.trace.states) found
+  pub first : FoundFirst (findings held.program.value held.public.value (memory_of held.memory.value) held.trace.value) found
 
 -- What the endings of `tables` mean. It ends with `Done` exactly where its files are within their limits, and what they
 -- spell has tables. The files are then as before, but that the name of the tables has their file. That file, with the

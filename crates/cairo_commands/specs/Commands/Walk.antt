@@ -1,37 +1,20 @@
--- `walk TRACE MEMORY`: is each step of a trace the transition of the machine in that memory? Its words, its inputs,
+-- `walk TRACE MEMORY`: is each step of a trace the transition of the machine in that memory? Its inputs,
 -- its answer, and what its endings mean. Own, but where another source is named.
-use Rattle.std.specs.Prelude.{◌≡◌, ◌≢◌, ◌↔◌, ℕ, ◌-◌, All, List, [], ◌∷◌, ◌++◌, length, take, slice_get, Option, Some, None, Ok, if◌then◌else◌, codes}
+use Rattle.std.specs.Prelude.{◌≡◌, ◌≢◌, ◌↔◌, ℕ, ◌-◌, All, List, [], ◌∷◌, ◌++◌, length, take, slice_get, Option, Some, None, Ok, codes}
 use Rattle.std.specs.Fmt.{decimal}
 use Rattle.std.specs.Io.KnownBytes.{Appends}
 use Rattle.casm_word.specs.Transition.{Registers, Outcome, outcome, next}
 use Rattle.casm_word.specs.Run.{steps, LegalRun, first_refused}
 use Rattle.casm_word.specs.Text.{step_text}
-use Rattle.trace_files.specs.MemoryFile.{memory_of}
+use Rattle.goldilocks.specs.Cells.{memory_of}
 use Rattle.file_port.specs.Files.{Name, Files}
-use Rattle.call_words.specs.Names.{are_names}
-use Rattle.cairo_commands.specs.declared.status.Status.{Status}
-use Rattle.cairo_commands.specs.declared.status.Status.TheVariants.{Done, Refused}
-use Rattle.cairo_commands.specs.Answer.{Answer, Input, Task, says}
-use Rattle.cairo_commands.specs.Request.{Request, Walk}
-use Rattle.cairo_commands.specs.Reading.{◌>>=◌, answered, read_as}
-use Rattle.cairo_commands.specs.RunFiles.{trace_input, trace_read, HoldsTrace, memory_input, cells_read, HoldsMemory}
+use Rattle.command_frame.specs.declared.status.Status.{Status}
+use Rattle.command_frame.specs.declared.status.Status.TheVariants.{Done, Refused}
+use Rattle.command_frame.specs.Answer.{Answer, Task, says}
+use Rattle.command_frame.specs.Formats.{◌>>=◌, answered, input_at, read_as}
+use Rattle.cairo_commands.specs.RunFiles.{trace_format, HoldsTrace, memory_format, HoldsMemory}
 
--- ---- its words, its inputs and its lines
-
--- The names after the word `walk`: a trace and a memory. Own.
-abbrev pub walk_request : List Name → Option Request
-walk_request (trace ∷ memory ∷ []) = if are_names (trace ∷ memory ∷ []) [] then Some (Walk trace memory) else None
-walk_request [] = None
-walk_request (a ∷ []) = None
-walk_request (a ∷ b ∷ c ∷ more) = None
-
--- The trace: the first name. Own.
-abbrev pub walk_trace : Name → Input
-walk_trace trace = trace_input 1 trace
-
--- The memory: the second name. Own.
-abbrev pub walk_memory : Name → Input
-walk_memory memory = memory_input 2 memory
+-- ---- its files and its lines
 
 -- The line of a walk along so many legal steps. Own.
 abbrev pub steps_line : ℕ → List ℕ
@@ -51,14 +34,14 @@ walked states (Some refused) = says Refused (refused_line refused.0 refused.1)
 -- Both files are read, the trace first, and then each step is looked at. Own.
 unfoldable pub walk_answer : Name → Name → Files → Answer
 walk_answer trace memory files = answered (do
-  states ← read_as trace_read (walk_trace trace) files
-  cells ← read_as cells_read (walk_memory memory) files
+  states ← read_as trace_format 1 trace files
+  cells ← read_as memory_format 2 memory files
   Ok (walked states (first_refused (memory_of cells) states)))
 
 -- What `walk` reads and answers. Own.
 abbrev pub walk_task : Name → Name → Task
 walk_task trace memory = record {
-  inputs = walk_trace trace ∷ walk_memory memory ∷ [];
+  inputs = input_at trace_format 1 trace ∷ input_at memory_format 2 memory ∷ [];
   outputs = [];
   answer = walk_answer trace memory;
 }
@@ -74,7 +57,7 @@ pub record SpellsWalk (trace_name memory_name : Name) (files : Files) : Type 0 w
 -- whitepaper's machine with a read-only memory.
 pub record WalksLegally (trace memory : Name) (files : Files) : Type 0 where
   pub spelled : SpellsWalk trace memory files
-  pub legal : LegalRun (memory_of spelled.memory.cells) spelled.trace.states
+  pub legal : LegalRun (memory_of spelled.memory.value) spelled.trace.value
 
 -- The files spell states and cells, and one step is the first that isn't the transition. Steps are counted from
 -- 0. Each step before it is the transition. It goes from one state to another, and the transition comes to
@@ -85,10 +68,10 @@ pub record WalkIsRefused (trace memory : Name) (files : Files) : Type 0 where
   pub from : Registers
   pub to : Registers
   pub found : Outcome
-  pub at : slice_get (steps spelled.trace.states) step ≡ Some (from, to)
-  pub legal_before : All (λ earlier. next (memory_of spelled.memory.cells) earlier.0 ≡ Some earlier.1) (take step (steps spelled.trace.states))
-  pub not_next : next (memory_of spelled.memory.cells) from ≢ Some to
-  pub cause : found ≡ outcome (memory_of spelled.memory.cells) from
+  pub at : slice_get (steps spelled.trace.value) step ≡ Some (from, to)
+  pub legal_before : All (λ earlier. next (memory_of spelled.memory.value) earlier.0 ≡ Some earlier.1) (take step (steps spelled.trace.value))
+  pub not_next : next (memory_of spelled.memory.value) from ≢ Some to
+  pub cause : found ≡ outcome (memory_of spelled.memory.value) from
 
 -- What the endings of `walk` mean. It ends with `Done` exactly where its files spell a legal run, and the line then
 -- tells how many steps that has. It ends with `Refused` exactly where they spell states and cells of which some
@@ -96,6 +79,6 @@ pub record WalkIsRefused (trace memory : Name) (files : Files) : Type 0 where
 -- written before and now. Own.
 pub record WalkMeans (trace memory : Name) (files : Files) (status : Status) (before now : Option (List ℕ)) : Type 0 where
   pub legal : (status ≡ Done) ↔ WalksLegally trace memory files
-  pub legal_line : (walk : WalksLegally trace memory files) → Appends before now (steps_line (length walk.spelled.trace.states - 1))
+  pub legal_line : (walk : WalksLegally trace memory files) → Appends before now (steps_line (length walk.spelled.trace.value - 1))
   pub refused : (status ≡ Refused) ↔ WalkIsRefused trace memory files
   pub refused_line : (walk : WalkIsRefused trace memory files) → Appends before now (refused_line walk.step walk.found)

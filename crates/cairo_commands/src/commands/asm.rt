@@ -1,49 +1,60 @@
 //! `asm TEXT PROGRAM`: an assembly text is assembled to a program file.
 
-ghost use Rattle.std.specs.Prelude.{◌≡◌, IfSome, IfOk, option_map, string_bytes};
-ghost use Rattle.call_words.specs.Names.{texts};
+ghost use Rattle.std.specs.Prelude.{◌≡◌, IfSome, IfOk, string_bytes};
+ghost use Rattle.command_words.specs.Calls.{call_of, word_at};
+ghost use Rattle.cairo_commands.specs.Request.{Asm, request_with};
 ghost use Rattle.cairo_commands.specs.Commands.Asm as spec;
-ghost use Rattle.cairo_commands.specs.Parts.{WorksOut, Uses, request};
+ghost use Rattle.command_frame.specs.Parts.{WorksOut, Uses};
 
-use crate::ending::{Refusal, Work};
-use crate::programs::{program_bytes, text_input};
-use crate::words::Command;
-use call_words::are_names;
+use crate::programs::{AssemblyText, program_bytes};
+use crate::tools::Tools;
+use command_frame::{Refusal, Work, read_input};
+use command_words::{Command, Form};
 use file_port::Store;
 use std::alloc::{AllocError, Global};
 
 /// The position of the text among the words.
 const TEXT: usize = 1;
 
-/// The command that the names after the word `asm` ask for, if they keep its form.
-pub(crate) fn asm_command(names: &[String]) -> Option<Command<'_>>
-    ensures { option_map request result ≡ spec.asm_request (texts names.now) }
-{
-    match names {
-        [text, program] if are_names(&[text.as_str()], &[program.as_str()]) => Some(Command::Asm {
-            text: text.as_str(),
-            program: program.as_str(),
-        }),
-        _ => None,
+/// The position of the program file among the words.
+const PROGRAM: usize = 2;
+
+/// The names of the files of a call.
+#[derive(Clone, Copy)]
+pub(crate) struct AsmNames<'w> {
+    text: &'w str,
+    program: &'w str,
+}
+
+impl<'w> AsmNames<'w> {
+    /// The names that the words give.
+    #[tactic(auto, unfolding(crate::specs::Request::request_with))]
+    pub(crate) fn of(form: &Form<'w>) -> Self
+        ensures { Asm result.text.now result.program.now ≡ request_with Command.Asm (word_at (call_of form.now)) }
+    {
+        AsmNames {
+            text: form.word(TEXT),
+            program: form.word(PROGRAM),
+        }
     }
 }
 
 /// Reads the text, and works out its program file.
 #[tactic(auto, unfolding(crate::specs::Commands::Asm::asm_answer, assembler::specs::Assembling::seen_assembly))]
 pub(crate) fn asm<'w, S: Store>(
-    alloc: Global,
-    store: &mut S,
-    text: &'w str,
-    program: &'w str,
+    tools: Tools<'_, S>,
+    names: AsmNames<'w>,
 ) -> Result<Work<'w>, Refusal<'w>>
-    ensures told { IfSome (S.seen store.old).files
-        (λ files. WorksOut result (spec.asm_answer text.now program.now files)) }
-    ensures uses { Uses (spec.asm_task text.now program.now) (S.seen store.old) (S.seen store.new) result }
+    ensures told { IfSome (S.seen tools.entry.store.now).files
+        (λ files. WorksOut result (spec.asm_answer names.entry.text.now names.entry.program.now files)) }
+    ensures uses { Uses (spec.asm_task names.entry.text.now names.entry.program.now)
+        (S.seen tools.entry.store.now) (S.seen tools.exit.0.now) result }
 {
-    let assembled = text_input(alloc, store, TEXT, text)?;
+    let Tools { store, alloc } = tools;
+    let assembled = read_input::<AssemblyText, S>(alloc, store, TEXT, names.text)?;
     let line = words_line(alloc, assembled.words.len())?;
     let bytes = program_bytes(alloc, assembled)?;
-    Ok(Work::of_output(alloc, program, bytes, line)?)
+    Ok(Work::of_output(alloc, names.program, bytes, line)?)
 }
 
 fn words_line(alloc: Global, words: usize) -> Result<String, AllocError>

@@ -1,15 +1,16 @@
 //! `check PROGRAM PUBLIC TABLES`: do tables meet every written constraint, and so describe a run of the program?
 
-ghost use Rattle.std.specs.Prelude.{◌≡◌, IfSome, IfOk, option_map, string_bytes};
-ghost use Rattle.call_words.specs.Names.{texts};
+ghost use Rattle.std.specs.Prelude.{◌≡◌, IfSome, IfOk, string_bytes};
+ghost use Rattle.command_words.specs.Calls.{call_of, word_at};
+ghost use Rattle.cairo_commands.specs.Request.{Check, request_with};
 ghost use Rattle.cairo_commands.specs.Commands.Check as spec;
-ghost use Rattle.cairo_commands.specs.Parts.{WorksOut, Uses, request};
+ghost use Rattle.command_frame.specs.Parts.{WorksOut, Uses};
 
-use crate::ending::{Refusal, Work};
-use crate::programs::program_input;
-use crate::table_inputs::{public_input, tables_input};
-use crate::words::Command;
-use call_words::are_names;
+use crate::programs::ProgramFile;
+use crate::table_inputs::{PublicFile, TablesFile};
+use crate::tools::Tools;
+use command_frame::{Conclusion, Refusal, Work, read_input};
+use command_words::{Command, Form};
 use constraint_checker::{Constraint, Verdict};
 use file_port::Store;
 use std::alloc::{AllocError, Global};
@@ -23,47 +24,54 @@ const PUBLIC: usize = 2;
 /// The position of the tables among the words.
 const TABLES: usize = 3;
 
-/// The command that the names after the word `check` ask for, if they keep its form.
-pub(crate) fn check_command(names: &[String]) -> Option<Command<'_>>
-    ensures { option_map request result ≡ spec.check_request (texts names.now) }
-{
-    match names {
-        [program, public, tables]
-            if are_names(&[program.as_str(), public.as_str(), tables.as_str()], &[]) => {
-            Some(Command::Check {
-                program: program.as_str(),
-                public: public.as_str(),
-                tables: tables.as_str(),
-            })
+/// The names of the files of a call.
+#[derive(Clone, Copy)]
+pub(crate) struct CheckNames<'w> {
+    program: &'w str,
+    public: &'w str,
+    tables: &'w str,
+}
+
+impl<'w> CheckNames<'w> {
+    /// The names that the words give.
+    #[tactic(auto, unfolding(crate::specs::Request::request_with))]
+    pub(crate) fn of(form: &Form<'w>) -> Self
+        ensures { Check result.program.now result.public.now result.tables.now
+            ≡ request_with Command.Check (word_at (call_of form.now)) }
+    {
+        CheckNames {
+            program: form.word(PROGRAM),
+            public: form.word(PUBLIC),
+            tables: form.word(TABLES),
         }
-        _ => None,
     }
 }
 
 /// Reads the three files, and works out the verdict on the tables.
 #[tactic(auto, unfolding(crate::specs::Commands::Check::check_answer))]
 pub(crate) fn check<'w, S: Store>(
-    alloc: Global,
-    store: &mut S,
-    program: &'w str,
-    public: &'w str,
-    tables: &'w str,
+    tools: Tools<'_, S>,
+    names: CheckNames<'w>,
 ) -> Result<Work<'w>, Refusal<'w>>
-    ensures told { IfSome (S.seen store.old).files
-        (λ files. WorksOut result (spec.check_answer program.now public.now tables.now files)) }
-    ensures uses { Uses (spec.check_task program.now public.now tables.now) (S.seen store.old) (S.seen store.new) result }
+    ensures told { IfSome (S.seen tools.entry.store.now).files
+        (λ files. WorksOut result (spec.check_answer names.entry.program.now names.entry.public.now
+        names.entry.tables.now files)) }
+    ensures uses { Uses (spec.check_task names.entry.program.now names.entry.public.now names.entry.tables.now)
+        (S.seen tools.entry.store.now) (S.seen tools.exit.0.now) result }
 {
-    let listed = program_input(alloc, store, PROGRAM, program)?;
-    let stated = public_input(alloc, store, PUBLIC, public)?;
-    let columns = tables_input(alloc, store, TABLES, tables)?;
+    let Tools { store, alloc } = tools;
+    let listed = read_input::<ProgramFile, S>(alloc, store, PROGRAM, names.program)?;
+    let stated = read_input::<PublicFile, S>(alloc, store, PUBLIC, names.public)?;
+    let columns = read_input::<TablesFile, S>(alloc, store, TABLES, names.tables)?;
     match constraint_checker::check(alloc, &listed, &stated, &columns)? {
-        Verdict::Accepted => Ok(Work {
-            outputs: Vec::new(alloc),
-            line: accepted_line(alloc, columns.rows.len())?,
-        }),
-        Verdict::Refused { constraint, row } => Err(Refusal::Refused {
-            line: refused_line(alloc, constraint, row)?,
-        }),
+        Verdict::Accepted => {
+            let line = accepted_line(alloc, columns.rows.len())?;
+            Ok(Work::of_line(alloc, Conclusion::Done, line))
+        }
+        Verdict::Refused { constraint, row } => {
+            let line = refused_line(alloc, constraint, row)?;
+            Ok(Work::of_line(alloc, Conclusion::Refused, line))
+        }
     }
 }
 

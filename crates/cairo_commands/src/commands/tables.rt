@@ -1,19 +1,20 @@
 //! `tables PROGRAM PUBLIC TRACE MEMORY TABLES`: tables are built of a run, which is given by its trace and its memory.
 
-ghost use Rattle.std.specs.Prelude.{◌≡◌, ◌∷◌, [], IfSome, IfOk, length, option_map, string_bytes};
+ghost use Rattle.std.specs.Prelude.{◌≡◌, IfSome, IfOk, Ok, string_bytes};
 ghost use Rattle.table_file.specs.Tables.{contents, AreValid};
-ghost use Rattle.table_file.specs.Spelling.{spelling};
 ghost use Rattle.table_builder.specs.Findings.{finding_of};
-ghost use Rattle.call_words.specs.Names.{texts};
+ghost use Rattle.command_words.specs.Calls.{call_of, word_at};
+ghost use Rattle.cairo_commands.specs.Request.{Tables as TablesRequest, request_with};
 ghost use Rattle.cairo_commands.specs.Commands.Tables as spec;
-ghost use Rattle.cairo_commands.specs.Parts.{WorksOut, Uses, TellsFinding, request, outputs_in};
+ghost use Rattle.command_frame.specs.Parts.{WorksOut, Uses, work_answer};
+ghost use Rattle.cairo_commands.specs.Parts.{TellsFinding};
 
-use crate::ending::{Refusal, Work};
-use crate::programs::program_input;
-use crate::run_files::{memory_input, trace_input};
-use crate::table_inputs::public_input;
-use crate::words::Command;
-use call_words::are_names;
+use crate::programs::ProgramFile;
+use crate::run_files::{MemoryFile, TraceFile};
+use crate::table_inputs::PublicFile;
+use crate::tools::Tools;
+use command_frame::{Conclusion, Refusal, Work, read_input};
+use command_words::{Command, Form};
 use file_port::Store;
 use std::alloc::{AllocError, Global};
 use table_builder::BuildFault;
@@ -31,81 +32,80 @@ const TRACE: usize = 3;
 /// The position of the memory file among the words.
 const MEMORY: usize = 4;
 
-/// The command that the names after the word `tables` ask for, if they keep its form.
-pub(crate) fn tables_command(names: &[String]) -> Option<Command<'_>>
-    ensures { option_map request result ≡ spec.tables_request (texts names.now) }
-{
-    match names {
-        [program, public, trace, memory, tables]
-            if are_names(
-                &[
-                    program.as_str(),
-                    public.as_str(),
-                    trace.as_str(),
-                    memory.as_str(),
-                ],
-                &[tables.as_str()],
-            ) => {
-            Some(Command::Tables {
-                program: program.as_str(),
-                public: public.as_str(),
-                trace: trace.as_str(),
-                memory: memory.as_str(),
-                tables: tables.as_str(),
-            })
+/// The position of the tables among the words.
+const TABLES: usize = 5;
+
+/// The names of the files of a call.
+#[derive(Clone, Copy)]
+pub(crate) struct TablesNames<'w> {
+    program: &'w str,
+    public: &'w str,
+    trace: &'w str,
+    memory: &'w str,
+    tables: &'w str,
+}
+
+impl<'w> TablesNames<'w> {
+    /// The names that the words give.
+    #[tactic(auto, unfolding(crate::specs::Request::request_with))]
+    pub(crate) fn of(form: &Form<'w>) -> Self
+        ensures { TablesRequest result.program.now result.public.now result.trace.now result.memory.now result.tables.now
+            ≡ request_with Command.Tables (word_at (call_of form.now)) }
+    {
+        TablesNames {
+            program: form.word(PROGRAM),
+            public: form.word(PUBLIC),
+            trace: form.word(TRACE),
+            memory: form.word(MEMORY),
+            tables: form.word(TABLES),
         }
-        _ => None,
     }
 }
 
 /// Reads the four files, and works out the tables.
 #[tactic(auto, unfolding(crate::specs::Commands::Tables::tables_answer))]
 pub(crate) fn tables<'w, S: Store>(
-    alloc: Global,
-    store: &mut S,
-    program: &'w str,
-    public: &'w str,
-    trace: &'w str,
-    memory: &'w str,
-    tables: &'w str,
+    tools: Tools<'_, S>,
+    names: TablesNames<'w>,
 ) -> Result<Work<'w>, Refusal<'w>>
-    ensures told { IfSome (S.seen store.old).files (λ files.
-        WorksOut result (spec.tables_answer program.now public.now trace.now memory.now tables.now files)) }
-    ensures uses { Uses (spec.tables_task program.now public.now trace.now memory.now tables.now)
-        (S.seen store.old) (S.seen store.new) result }
+    ensures told { IfSome (S.seen tools.entry.store.now).files (λ files.
+        WorksOut result (spec.tables_answer names.entry.program.now names.entry.public.now
+        names.entry.trace.now names.entry.memory.now names.entry.tables.now files)) }
+    ensures uses { Uses (spec.tables_task names.entry.program.now names.entry.public.now
+        names.entry.trace.now names.entry.memory.now names.entry.tables.now)
+        (S.seen tools.entry.store.now) (S.seen tools.exit.0.now) result }
 {
-    let listed = program_input(alloc, store, PROGRAM, program)?;
-    let stated = public_input(alloc, store, PUBLIC, public)?;
-    let states = trace_input(alloc, store, TRACE, trace)?;
-    let cells = memory_input(alloc, store, MEMORY, memory)?;
+    let Tools { store, alloc } = tools;
+    let listed = read_input::<ProgramFile, S>(alloc, store, PROGRAM, names.program)?;
+    let stated = read_input::<PublicFile, S>(alloc, store, PUBLIC, names.public)?;
+    let states = read_input::<TraceFile, S>(alloc, store, TRACE, names.trace)?;
+    let cells = read_input::<MemoryFile, S>(alloc, store, MEMORY, names.memory)?;
     match table_builder::build(alloc, &listed, &stated, &states, &cells) {
-        Ok(columns) => Ok(built(alloc, tables, &columns)?),
-        Err(fault) => Err(refused(alloc, fault)),
+        Ok(columns) => Ok(built(alloc, names.tables, &columns)?),
+        Err(fault) => Ok(refused(alloc, fault)?),
     }
 }
 
 /// What is written and printed of tables that are built.
 fn built<'w>(alloc: Global, tables: &'w str, columns: &Tables) -> Result<Work<'w>, AllocError>
     requires { AreValid (contents columns.now) }
-    ensures outputs { IfOk result (λ work. outputs_in work.outputs.items ≡ (tables.now, spelling (contents columns.now)) ∷ []) }
-    ensures line { IfOk result (λ work. string_bytes work.line
-        ≡ spec.built_line (length columns.now.rows.items) (length (spelling (contents columns.now)))) }
+    ensures { IfOk result (λ work. work_answer work ≡ spec.built_answer tables.now (Ok (contents columns.now))) }
 {
     let bytes = table_file::write(alloc, columns)?;
     let line = built_line(alloc, columns.rows.len(), bytes.len())?;
     Work::of_output(alloc, tables, bytes, line)
 }
 
-/// The refusal of a run, for what stands in the way of its tables.
-fn refused<'w>(alloc: Global, fault: BuildFault) -> Refusal<'w>
+/// How a run is refused, for what stands in the way of its tables.
+fn refused<'w>(alloc: Global, fault: BuildFault) -> Result<Work<'w>, AllocError>
     ensures { TellsFinding (finding_of fault) result }
 {
     match fault {
-        BuildFault::Memory => Refusal::OutOfMemory,
-        fault => match format!(in alloc; "tables: refused: {fault}\n") {
-            Ok(line) => Refusal::Refused { line },
-            Err(_) => Refusal::OutOfMemory,
-        },
+        BuildFault::Memory => Err(AllocError),
+        fault => {
+            let line = format!(in alloc; "tables: refused: {fault}\n")?;
+            Ok(Work::of_line(alloc, Conclusion::Refused, line))
+        }
     }
 }
 

@@ -1,22 +1,19 @@
 //! `walk TRACE MEMORY`: is each step of a trace the transition to the state after it?
 
-ghost use Rattle.std.specs.Prelude.{◌≡◌, IfSome, IfOk, map, option_map, string_bytes};
-ghost use Rattle.casm_word.specs.Transition.{outcome_of, registers};
-ghost use Rattle.casm_word.specs.Run.{first_refused, is_next};
-ghost use Rattle.trace_files.specs.MemoryFile.{memory_of, as_cells};
-ghost use Rattle.trace_files.specs.CellList.{listed};
-ghost use Rattle.call_words.specs.Names.{texts};
+ghost use Rattle.std.specs.Prelude.{◌≡◌, IfSome, IfOk, string_bytes};
+ghost use Rattle.casm_word.specs.Transition.{outcome_of};
+ghost use Rattle.command_words.specs.Calls.{call_of, word_at};
+ghost use Rattle.cairo_commands.specs.Request.{Walk, request_with};
 ghost use Rattle.cairo_commands.specs.Commands.Walk as spec;
-ghost use Rattle.cairo_commands.specs.Parts.{WorksOut, Uses, request};
+ghost use Rattle.command_frame.specs.Parts.{WorksOut, Uses};
 
-use crate::ending::{Refusal, Work};
-use crate::run_files::{memory_input, trace_input};
-use crate::words::Command;
-use call_words::are_names;
-use casm_word::{State, StepResult, step};
+use crate::run_files::{MemoryFile, TraceFile};
+use crate::tools::Tools;
+use casm_word::{StepResult, first_refused};
+use command_frame::{Conclusion, Refusal, Work, read_input};
+use command_words::{Command, Form};
 use file_port::Store;
 use std::alloc::{AllocError, Global};
-use trace_files::CellList;
 
 /// The position of the trace file among the words.
 const TRACE: usize = 1;
@@ -24,68 +21,49 @@ const TRACE: usize = 1;
 /// The position of the memory file among the words.
 const MEMORY: usize = 2;
 
-/// The command that the names after the word `walk` ask for, if they keep its form.
-pub(crate) fn walk_command(names: &[String]) -> Option<Command<'_>>
-    ensures { option_map request result ≡ spec.walk_request (texts names.now) }
-{
-    match names {
-        [trace, memory] if are_names(&[trace.as_str(), memory.as_str()], &[]) => Some(
-            Command::Walk {
-                trace: trace.as_str(),
-                memory: memory.as_str(),
-            },
-        ),
-        _ => None,
-    }
-}
-
-/// Reads both files and looks at each step.
-#[tactic(auto, unfolding(crate::specs::Commands::Walk::walk_answer))]
-pub(crate) fn walk<'w, S: Store>(
-    alloc: Global,
-    store: &mut S,
+/// The names of the files of a call.
+#[derive(Clone, Copy)]
+pub(crate) struct WalkNames<'w> {
     trace: &'w str,
     memory: &'w str,
-) -> Result<Work<'w>, Refusal<'w>>
-    ensures told { IfSome (S.seen store.old).files
-        (λ files. WorksOut result (spec.walk_answer trace.now memory.now files)) }
-    ensures uses { Uses (spec.walk_task trace.now memory.now) (S.seen store.old) (S.seen store.new) result }
-{
-    let states = trace_input(alloc, store, TRACE, trace)?;
-    let cells = memory_input(alloc, store, MEMORY, memory)?;
-    match first_refused(&cells, &states) {
-        None => Ok(Work {
-            outputs: Vec::new(alloc),
-            line: steps_line(alloc, states.len().saturating_sub(1))?,
-        }),
-        Some(refused) => Err(Refusal::Refused {
-            line: refused_line(alloc, refused.0, &refused.1)?,
-        }),
-    }
 }
 
-/// The first step that is not the transition, with what the transition comes to.
-fn first_refused(cells: &CellList, states: &[State]) -> Option<(usize, StepResult)>
-    ensures { option_map (λ refused. (refused.0, outcome_of refused.1)) result
-        ≡ first_refused (memory_of (as_cells (listed cells.now))) (map registers states.now) }
-{
-    for i in 1..states.len() {
-        let found = step(cells, states[i - 1]);
-        if !is_next(&found, states[i]) {
-            return Some((i - 1, found));
+impl<'w> WalkNames<'w> {
+    /// The names that the words give.
+    #[tactic(auto, unfolding(crate::specs::Request::request_with))]
+    pub(crate) fn of(form: &Form<'w>) -> Self
+        ensures { Walk result.trace.now result.memory.now ≡ request_with Command.Walk (word_at (call_of form.now)) }
+    {
+        WalkNames {
+            trace: form.word(TRACE),
+            memory: form.word(MEMORY),
         }
     }
-    None
 }
 
-/// Whether a step came to the state.
-#[tactic(auto, unfolding(casm_word::specs::Transition::outcome_of, casm_word::specs::Transition::registers))]
-fn is_next(found: &StepResult, to: State) -> bool
-    ensures { result ≡ is_next (outcome_of found.now) (registers to) }
+/// Reads both files and checks each step.
+#[tactic(auto, unfolding(crate::specs::Commands::Walk::walk_answer))]
+pub(crate) fn walk<'w, S: Store>(
+    tools: Tools<'_, S>,
+    names: WalkNames<'w>,
+) -> Result<Work<'w>, Refusal<'w>>
+    ensures told { IfSome (S.seen tools.entry.store.now).files
+        (λ files. WorksOut result (spec.walk_answer names.entry.trace.now names.entry.memory.now files)) }
+    ensures uses { Uses (spec.walk_task names.entry.trace.now names.entry.memory.now)
+        (S.seen tools.entry.store.now) (S.seen tools.exit.0.now) result }
 {
-    match found {
-        StepResult::Next(next) => *next == to,
-        _ => false,
+    let Tools { store, alloc } = tools;
+    let states = read_input::<TraceFile, S>(alloc, store, TRACE, names.trace)?;
+    let cells = read_input::<MemoryFile, S>(alloc, store, MEMORY, names.memory)?;
+    match first_refused(&cells, &states) {
+        None => {
+            let line = steps_line(alloc, states.len().saturating_sub(1))?;
+            Ok(Work::of_line(alloc, Conclusion::Done, line))
+        }
+        Some(refused) => {
+            let line = refused_line(alloc, refused.0, &refused.1)?;
+            Ok(Work::of_line(alloc, Conclusion::Refused, line))
+        }
     }
 }
 

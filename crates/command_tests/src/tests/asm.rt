@@ -1,18 +1,18 @@
-//! `asm`: texts from outside, their faults, and what a failed call leaves.
+//! `asm`: texts from outside, and their faults.
 
 use super::loop_of_twenty::{PROGRAM as LOOP_OF_TWENTY_PROGRAM, TEXT as LOOP_OF_TWENTY_TEXT};
-use super::one_return::{RET, check_fault, check_unknown};
+use super::one_return::RET;
 use super::vectors::{
     FOUR_STEPS_PROGRAM, JUMP_NOT_TAKEN_PROGRAM, JUMP_NOT_TAKEN_TEXT, JUMP_TAKEN_PROGRAM,
     JUMP_TAKEN_TEXT, OUTPUT_CELL_PROGRAM, OUTPUT_CELL_TEXT, RANGE_CELL_PROGRAM, RANGE_CELL_TEXT,
 };
 use super::{check_call, store_of};
-use cairo_commands::Status::{self, Done, Input, Limit, Missing, Store as StoreFault};
+use cairo_commands::Status::{self, Done, Input, Limit};
 use std::alloc::{AllocError, Global};
 use std::process::Abort;
 use std::test::Fail;
 
-const ASM: &[&str] = &["asm", "X", "P"];
+pub const ASM: &[&str] = &["asm", "X", "P"];
 
 /// Texts, what `asm` answers of them, and the program file that it writes, if it writes one.
 const TEXTS: &[(&str, Status, &str, Option<&str>)] = &[
@@ -86,50 +86,10 @@ fn texts_are_assembled(rt: HostRuntime) -> Result<(), Fail> {
     for (text, status, line, program) in TEXTS {
         let mut store = store_of(alloc, &[("X", text.as_bytes()), ("Y", b"kept")], &[])?;
         check_call(&rt, alloc, text, ASM, &mut store, (*status, line))?;
-        assert_eq!(rt;
-            store.file("P"),
-            program.map(str::as_bytes),
-            "{text}: the program"
-        );
-        assert_eq!(rt;
-            store.file("X"),
-            Some(text.as_bytes()),
-            "{text}: the text stays"
-        );
-        assert_eq!(rt;
-            store.file("Y"),
-            Some(b"kept".as_slice()),
-            "{text}: another file stays"
-        );
-    }
-    Ok(())
-}
-
-/// Words that are no form of `asm`.
-const UNKNOWN: &[&[&str]] = &[
-    &["asm"],
-    &["asm", "X"],
-    &["asm", "X", "X"],
-    &["asm", "", "P"],
-    &["asm", "X", ""],
-    &["asm", "X", "P", "Q"],
-];
-
-/// Calls that fail over the text and the program of one `ret`, and what is answered.
-const FAULTS: &[(&[&str], &[u32], Status, &str)] = &[
-    (ASM, &[1], StoreFault, "store fault: X\n"),
-    (ASM, &[2], StoreFault, "store fault: X\n"),
-    (ASM, &[3], StoreFault, "store fault: X\n"),
-    (ASM, &[4], StoreFault, "store fault: P\n"),
-    (ASM, &[5], Done, "asm: 1 words\n"),
-    (&["asm", "Z", "P"], &[], Missing, "missing: input 1\n"),
-];
-
-#[test]
-fn other_words_and_faults_are_told(rt: HostRuntime) -> Result<(), Fail> {
-    check_unknown(&rt, rt.alloc(), UNKNOWN)?;
-    for (words, fails, status, line) in FAULTS {
-        check_fault(&rt, rt.alloc(), words, fails, (*status, line))?;
+        let left = store.file("P") == program.map(str::as_bytes)
+            && store.file("X") == Some(text.as_bytes())
+            && store.file("Y") == Some(b"kept".as_slice());
+        assert!(rt; left, "{text}: the files");
     }
     Ok(())
 }

@@ -1,6 +1,5 @@
 //! `check`: tables from outside, the constraint that refuses them, and files that spell nothing.
 
-use super::one_return::check_unknown;
 use super::vectors::{
     ADDRESSES_WRAP, BOTH_RES_FLAGS, BOTH_RES_FLAGS_PROGRAM, BOTH_RES_FLAGS_PUBLIC, FOUR_STEPS,
     FOUR_STEPS_PROGRAM, FOUR_STEPS_PUBLIC, JUMP_NOT_TAKEN, JUMP_NOT_TAKEN_PROGRAM,
@@ -612,13 +611,6 @@ fn faults_of_a_public_input_are_told(rt: HostRuntime) -> Result<(), Fail> {
     Ok(())
 }
 
-/// Words that are no form of `check`.
-const UNKNOWN: &[&[&str]] = &[
-    &["check", "P", "U"],
-    &["check", "P", "U", ""],
-    &["check", "P", "U", "T", "--workers", "2"],
-];
-
 /// Which files are there, which calls of the store fail, and what is answered.
 const FAULTS: &[(&[&str], &[u32], Status, &str)] = &[
     (&["U", "T"], &[], Missing, "missing: input 1\n"),
@@ -640,9 +632,8 @@ fn file_of(alloc: Global, name: &str) -> Result<Vec<u8>, AllocError> {
 }
 
 #[test]
-fn other_words_and_faults_are_told(rt: HostRuntime) -> Result<(), Fail> {
+fn missing_files_and_failing_calls_are_told(rt: HostRuntime) -> Result<(), Fail> {
     let alloc = rt.alloc();
-    check_unknown(&rt, alloc, UNKNOWN)?;
     for (names, fails, status, line) in FAULTS {
         let mut files = Vec::new(alloc);
         for name in *names {

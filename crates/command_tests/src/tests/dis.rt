@@ -1,19 +1,18 @@
-//! `dis`: programs from outside, their faults, and what a failed call leaves.
+//! `dis`: programs from outside, and their faults.
 
 use super::loop_of_twenty::{PROGRAM as LOOP_OF_TWENTY_PROGRAM, TEXT as LOOP_OF_TWENTY_TEXT};
-use super::one_return::{RET, check_fault, check_unknown, ret_store};
+use super::one_return::RET;
 use super::vectors::{
     JUMP_NOT_TAKEN_PROGRAM, JUMP_NOT_TAKEN_TEXT, JUMP_TAKEN_PROGRAM, JUMP_TAKEN_TEXT,
     OUTPUT_CELL_PROGRAM, OUTPUT_CELL_TEXT, RANGE_CELL_PROGRAM, RANGE_CELL_TEXT,
 };
-use super::{check_call, status_of, store_of};
-use cairo_commands::Status::{self, Done, Input, Limit, Missing, Sink, Store as StoreFault};
-use file_port::MemorySink;
+use super::{check_call, store_of};
+use cairo_commands::Status::{self, Done, Input, Limit};
 use std::alloc::{AllocError, Global};
 use std::process::Abort;
 use std::test::Fail;
 
-const DIS: &[&str] = &["dis", "P", "X"];
+pub const DIS: &[&str] = &["dis", "P", "X"];
 
 /// Program files, what `dis` answers of them, and the text that it writes, if it writes one.
 const PROGRAMS: &[(&str, Status, &str, Option<&str>)] = &[
@@ -95,48 +94,10 @@ fn programs_are_shown(rt: HostRuntime) -> Result<(), Fail> {
     for (program, status, line, text) in PROGRAMS {
         let mut store = store_of(alloc, &[("P", program.as_bytes())], &[])?;
         check_call(&rt, alloc, program, DIS, &mut store, (*status, line))?;
-        assert_eq!(rt;
-            store.file("X"),
-            text.map(str::as_bytes),
-            "{program}: the text"
-        );
-        assert_eq!(rt;
-            store.file("P"),
-            Some(program.as_bytes()),
-            "{program}: the program stays"
-        );
+        let left = store.file("X") == text.map(str::as_bytes)
+            && store.file("P") == Some(program.as_bytes());
+        assert!(rt; left, "{program}: the files");
     }
-    Ok(())
-}
-
-/// Words that are no form of `dis`.
-const UNKNOWN: &[&[&str]] = &[&["dis", "P", "P"], &["dis", "P"]];
-
-/// Calls that fail over the text and the program of one `ret`, and what is answered.
-const FAULTS: &[(&[&str], &[u32], Status, &str)] = &[
-    (DIS, &[1], StoreFault, "store fault: P\n"),
-    (DIS, &[2], StoreFault, "store fault: P\n"),
-    (DIS, &[3], StoreFault, "store fault: P\n"),
-    (DIS, &[4], StoreFault, "store fault: X\n"),
-    (&["dis", "Z", "X"], &[2], Missing, "missing: input 1\n"),
-];
-
-#[test]
-fn other_words_and_faults_are_told(rt: HostRuntime) -> Result<(), Fail> {
-    let alloc = rt.alloc();
-    check_unknown(&rt, alloc, UNKNOWN)?;
-    for (words, fails, status, line) in FAULTS {
-        check_fault(&rt, alloc, words, fails, (*status, line))?;
-    }
-    let mut store = ret_store(alloc, &[])?;
-    let mut sink = MemorySink::new(alloc, Vec::from_slice(alloc, &[1])?);
-    assert_eq!(rt; status_of(alloc, DIS, &mut store, &mut sink)?, Sink);
-    let written = Some(b"%start 0\n%end 0\nret\n".as_slice());
-    assert_eq!(rt;
-        store.file("X"),
-        written,
-        "a failing sink: the text is written"
-    );
     Ok(())
 }
 

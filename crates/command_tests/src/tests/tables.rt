@@ -11,7 +11,7 @@ use super::vectors::{
 };
 use super::{MEMORY, TRACE, bytes_of, check_call, status_of, store_of, with_number};
 use cairo_commands::Status::{
-    self, Done, Input, Limit, Missing, Refused, Sink, Store as StoreFault, Words,
+    self, Done, Input, Limit, Missing, Refused, Sink, Store as StoreFault,
 };
 use file_port::{MemorySink, MemoryStore};
 use std::alloc::{AllocError, Global};
@@ -545,22 +545,6 @@ fn gaps_are_filled_from_the_memory(rt: HostRuntime) -> Result<(), Fail> {
     Ok(())
 }
 
-/// Words that are no form of `tables`.
-const UNKNOWN: &[&[&str]] = &[
-    &["tables"],
-    &["tables", "P", "U", "T", "M"],
-    &["tables", "P", "U", "T", "M", "O", "Q"],
-    &["tables", "P", "U", "T", "M", "P"],
-    &["tables", "P", "U", "T", "M", "U"],
-    &["tables", "P", "U", "T", "M", "T"],
-    &["tables", "P", "U", "T", "M", "M"],
-    &["tables", "P", "U", "T", "M", ""],
-    &["tables", "", "U", "T", "M", "O"],
-    &["tables", "P", "U", "T", "", "O"],
-    &["tables", "P", "U", "T", "M", "O", "--workers", "2"],
-    &["table", "P", "U", "T", "M", "O"],
-];
-
 /// Calls of the store that fail over the files of the four steps, and what is answered.
 const FAULTS: &[(&[u32], Status, &str)] = &[
     (&[1], StoreFault, "store fault: P\n"),
@@ -602,24 +586,14 @@ fn inputs_stay(alloc: Global, store: &MemoryStore) -> Result<bool, AllocError> {
 }
 
 #[test]
-fn other_words_and_failing_calls_are_told(rt: HostRuntime) -> Result<(), Fail> {
+fn failing_calls_are_told(rt: HostRuntime) -> Result<(), Fail> {
     let alloc = rt.alloc();
-    for words in UNKNOWN {
-        // A call on the store would fail.
-        let mut store = store_of_steps(alloc, &[1])?;
-        let row = format!(in alloc; "{words:?}")?;
-        check_call(&rt, alloc, &row, words, &mut store, (Words, "usage\n"))?;
-    }
     for (fails, status, line) in FAULTS {
         let mut store = store_of_steps(alloc, fails)?;
         let row = format!(in alloc; "fails {fails:?}")?;
         check_call(&rt, alloc, &row, TABLES, &mut store, (*status, line))?;
-        assert!(rt; inputs_stay(alloc, &store)?, "{row}: the inputs stay");
-        assert_eq!(rt;
-            store.file("O").is_some(),
-            *status == Done,
-            "{row}: the tables"
-        );
+        let left = inputs_stay(alloc, &store)? && store.file("O").is_some() == (*status == Done);
+        assert!(rt; left, "{row}: the files");
     }
     let mut store = store_of_steps(alloc, &[])?;
     let mut sink = MemorySink::new(alloc, Vec::from_slice(alloc, &[1])?);
@@ -631,28 +605,34 @@ fn other_words_and_failing_calls_are_told(rt: HostRuntime) -> Result<(), Fail> {
     Ok(())
 }
 
-/// An input that is missing, and what is answered.
-const GONE: &[(&str, &str)] = &[
-    ("P", "missing: input 1\n"),
-    ("U", "missing: input 2\n"),
-    ("T", "missing: input 3\n"),
-    ("M", "missing: input 4\n"),
-];
-
-/// Another file in the place of an input, and what is answered.
-const OTHERS: &[(&str, &[u8], Status, &str)] = &[
-    ("P", b"{", Input, "input 1: Json\n"),
-    ("U", b"{", Input, "input 2: Json\n"),
-    ("U", br#"{"steps":1048577}"#, Limit, "limit: input 2\n"),
-    ("T", b"", Input, "input 3: Length\n"),
-    ("T", &[0; 24], Input, "input 3: Length\n"),
-    ("T", &[0; 119], Input, "input 3: Length\n"),
-    ("T", &[255; 48], Input, "input 3: NotField 0\n"),
-    ("M", &[0; 223], Input, "input 4: Length\n"),
-    ("M", &[0; 32], Input, "input 4: Order 16\n"),
-    ("M", &[255; 16], Input, "input 4: NotField 0\n"),
+/// Another file in the place of an input, or none, and what is answered.
+const OTHERS: &[(&str, Option<&[u8]>, Status, &str)] = &[
+    ("P", None, Missing, "missing: input 1\n"),
+    ("U", None, Missing, "missing: input 2\n"),
+    ("T", None, Missing, "missing: input 3\n"),
+    ("M", None, Missing, "missing: input 4\n"),
+    ("P", Some(b"{"), Input, "input 1: Json\n"),
+    ("U", Some(b"{"), Input, "input 2: Json\n"),
+    (
+        "U",
+        Some(br#"{"steps":1048577}"#),
+        Limit,
+        "limit: input 2\n",
+    ),
+    ("T", Some(b""), Input, "input 3: Length\n"),
+    ("T", Some(&[0; 24]), Input, "input 3: Length\n"),
+    ("T", Some(&[0; 119]), Input, "input 3: Length\n"),
+    ("T", Some(&[255; 48]), Input, "input 3: NotField 0\n"),
+    ("M", Some(&[0; 223]), Input, "input 4: Length\n"),
+    ("M", Some(&[0; 32]), Input, "input 4: Order 16\n"),
+    ("M", Some(&[255; 16]), Input, "input 4: NotField 0\n"),
     // a memory of no cells is one
-    ("M", b"", Refused, "tables: refused: Step 0: NoCell 1\n"),
+    (
+        "M",
+        Some(b""),
+        Refused,
+        "tables: refused: Step 0: NoCell 1\n",
+    ),
 ];
 
 /// The files of the four steps, but another one of this name, or none.
@@ -687,17 +667,10 @@ const LONG: &[(&str, usize, &str)] = &[
 #[test]
 fn other_inputs_are_told(rt: HostRuntime) -> Result<(), Fail> {
     let alloc = rt.alloc();
-    for (gone, line) in GONE {
-        let mut store = store_but(alloc, gone, None)?;
-        check_call(&rt, alloc, line, TABLES, &mut store, (Missing, line))?;
-        assert!(rt; store.file("O").is_none(), "{line}: no tables");
-    }
     for (other, bytes, status, line) in OTHERS {
-        let mut store = store_but(alloc, other, Some(bytes))?;
-        let size = bytes.len();
-        let row = format!(in alloc; "{other} of {size} bytes")?;
-        check_call(&rt, alloc, &row, TABLES, &mut store, (*status, line))?;
-        assert!(rt; store.file("O").is_none(), "{row}: no tables");
+        let mut store = store_but(alloc, other, *bytes)?;
+        check_call(&rt, alloc, line, TABLES, &mut store, (*status, line))?;
+        assert!(rt; store.file("O").is_none(), "{line}: no tables");
     }
     for (other, length, line) in LONG {
         let bytes = vec![in alloc; b' '; *length]?;

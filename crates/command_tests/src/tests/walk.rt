@@ -17,17 +17,6 @@ pub type Walked = (
     &'static str,
 );
 
-#[test]
-fn walk_tells_the_first_refused_step(rt: HostRuntime) -> Result<(), Fail> {
-    let alloc = rt.alloc();
-    for (row, trace, memory, status, line) in STEPS {
-        let trace = bytes_of(alloc, trace)?;
-        let memory = bytes_of(alloc, memory)?;
-        check_walk(&rt, alloc, row, &trace, &memory, (*status, line))?;
-    }
-    Ok(())
-}
-
 /// Numbers of both files that spell nothing, or just something, and what is answered.
 const NUMBERS: &[Walked] = &[
     (
@@ -145,9 +134,9 @@ const LENGTHS: &[(&str, usize, usize, Status, &str)] = &[
 ];
 
 #[test]
-fn files_are_refused_that_spell_nothing(rt: HostRuntime) -> Result<(), Fail> {
+fn runs_are_walked(rt: HostRuntime) -> Result<(), Fail> {
     let alloc = rt.alloc();
-    for (row, trace, memory, status, line) in NUMBERS {
+    for (row, trace, memory, status, line) in STEPS.iter().chain(NUMBERS) {
         let trace = bytes_of(alloc, trace)?;
         let memory = bytes_of(alloc, memory)?;
         check_walk(&rt, alloc, row, &trace, &memory, (*status, line))?;

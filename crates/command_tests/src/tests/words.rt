@@ -22,6 +22,29 @@ const UNKNOWN_COMMANDS: &[&[&str]] = &[
     &["wal", "T", "M"],
     &["", "T", "M"],
     &["T", "M"],
+    &["asm"],
+    &["asm", "X"],
+    &["asm", "X", "X"],
+    &["asm", "", "P"],
+    &["asm", "X", ""],
+    &["asm", "X", "P", "Q"],
+    &["dis", "P", "P"],
+    &["dis", "P"],
+    &["check", "P", "U"],
+    &["check", "P", "U", ""],
+    &["check", "P", "U", "T", "--workers", "2"],
+    &["tables"],
+    &["tables", "P", "U", "T", "M"],
+    &["tables", "P", "U", "T", "M", "O", "Q"],
+    &["tables", "P", "U", "T", "M", "P"],
+    &["tables", "P", "U", "T", "M", "U"],
+    &["tables", "P", "U", "T", "M", "T"],
+    &["tables", "P", "U", "T", "M", "M"],
+    &["tables", "P", "U", "T", "M", ""],
+    &["tables", "", "U", "T", "M", "O"],
+    &["tables", "P", "U", "T", "", "O"],
+    &["tables", "P", "U", "T", "M", "O", "--workers", "2"],
+    &["table", "P", "U", "T", "M", "O"],
 ];
 
 /// What is tried: words with names of which some are missing, the files that are there, and what is answered.
@@ -69,10 +92,9 @@ const NAMES: &[Named] = &[
 #[test]
 fn unknown_words_are_told(rt: HostRuntime) -> Result<(), Fail> {
     let alloc = rt.alloc();
-    let trace = bytes_of(alloc, TRACE)?;
     for words in UNKNOWN_COMMANDS {
         // A call on the store would fail.
-        let mut store = store_of(alloc, &[("T", &trace)], &[1])?;
+        let mut store = store_of(alloc, &[], &[1])?;
         let row = format!(in alloc; "{words:?}")?;
         check_call(&rt, alloc, &row, words, &mut store, (Words, "usage\n"))?;
     }

@@ -1,8 +1,8 @@
 use Rattle.std.proofs.Common.{sym, ap, subst}
-use Rattle.assembler.specs.Assembling.{Assembly}
+use Rattle.assembler.specs.Assembling.{Assembly, seen_assembly}
 use Rattle.assembler.proofs.Outcomes.{seen_assembly-is, assembling-seen}
 use Rattle.program_file.specs.Listing.{IsProgram}
-use Rattle.cairo_commands.specs.Reading.{told}
+use Rattle.command_frame.specs.Formats.{told}
 use Rattle.cairo_commands.specs.Programs.{assembly_unread, listing_of}
 use Rattle.cairo_commands.proofs.ProgramReadings.{IsProgram-assembly, assembly_refused}
 use Rattle.cairo_commands.proofs.programs.assembly_of.Goals as goal
@@ -19,6 +19,6 @@ returns-in-Ok-clause-bounds c =
 
 pub returns-in-Err : goal.returns-in-Err
 returns-in-Err c = record {
-  reads = assembly_refused c.args.items.now c.in-Err.fault c.args.position c.refuse_items.result c.in-Err.ensures.fault c.refuse_items.ensures.says c.refuse_items.ensures.memory;
+  reads = assembly_refused seen_assembly c.args.items.now c.in-Err.fault c.unread_items.result c.in-Err.ensures.fault c.unread_items.ensures.says c.unread_items.ensures.memory;
   bounds = tt;
 }

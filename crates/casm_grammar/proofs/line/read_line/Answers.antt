@@ -21,4 +21,4 @@ overflow_sub-result c =
 
 pub returns-in-Err-clause-fault : goal.returns-in-Err-clause-fault
 returns-in-Err-clause-fault c =
-    subst (λ (n : ℕ). HasFault whole_line (seen c.args.tokens.now) (n - c.in-Err.stop.left) c.in-Err.stop.kind) (length-map c.args.tokens.now (λ (t : Lexeme). mark_of t.mark)) (read_fault _ _ _ c.in-Err.ensures)
+    subst (λ (n : ℕ). HasFault whole_line (seen c.args.tokens.now) (n - c.in-Err.refusal.left) c.in-Err.refusal.kind) (length-map c.args.tokens.now (λ (t : Lexeme). mark_of t.mark)) (read_fault _ _ _ c.in-Err.ensures)

@@ -8,8 +8,7 @@ use Rattle.constraint_checker.specs.declared.Verdict.TheVariants.{Accepted}
 use Rattle.constraint_checker.specs.Constraints.{MeetsAll}
 use Rattle.constraint_checker.specs.Verdict.{verdict_on, verdict}
 use Rattle.constraint_checker.specs.Acceptance.{DescribeRun}
-use Rattle.constraint_checker.specs.Parts.{small_conditions}
-use Rattle.constraint_checker.proofs.Groups.{at_run, at_memory, at_small_values}
+use Rattle.constraint_checker.proofs.Groups.{on_small_values, at_run, at_memory, at_small_values}
 use Rattle.constraint_checker.proofs.Acceptances.{accepted_exactly, rows_counted}
 use Rattle.constraint_checker.proofs.Descriptions.{describe_run}
 use Rattle.constraint_checker.proofs.checking.check.Goals as goal
@@ -43,7 +42,7 @@ verdict_on_small_values-requires-clause-some_row c =
 
 pub returns-clause-verdict : goal.returns-clause-verdict
 returns-clause-verdict c =
-    IfOk-weaker c.verdict_on_small_values.result (λ v. v ≡ verdict_on (small_conditions (statement c.args.public.now) (contents c.args.tables.now))) (λ v. v ≡ verdict (listing c.args.program.now) (statement c.args.public.now) (contents c.args.tables.now))
+    IfOk-weaker c.verdict_on_small_values.result (λ v. v ≡ verdict_on (on_small_values (statement c.args.public.now) (contents c.args.tables.now))) (λ v. v ≡ verdict (listing c.args.program.now) (statement c.args.public.now) (contents c.args.tables.now))
     (λ v e. e ∙ sym (at_small_values (listing c.args.program.now) (statement c.args.public.now) (contents c.args.tables.now) (sym c.verdict_on_run-run.ensures.verdict ∙ c.is_accepted.ensures.0 c.if-not-is_accepted.false) (sym c.in_ok-memory.ensures ∙ c.is_accepted-2.ensures.0 c.if-not-is_accepted-2.false))) c.verdict_on_small_values.ensures
 
 pub returns-clause-accepted : goal.returns-clause-accepted

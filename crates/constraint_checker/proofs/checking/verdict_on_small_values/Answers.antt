@@ -10,14 +10,14 @@ pub returns-in-Some : goal.returns-in-Some
 returns-in-Some c =
     let fault_is : c.in_ok-fault.field-0 ≡ first_range_fault (range_values (contents c.args.tables.now)) c.args.tables.now.small.sorted.items c.args.public.now.rc_min c.args.public.now.rc_max =
     c.in_ok-fault.ensures.fault
-    ∙ (ap (λ xs. first_range_fault xs c.as_slice-sorted.result.now c.args.public.now.rc_min c.args.public.now.rc_max) c.in_ok-values.ensures
+    ∙ (ap (λ xs. first_range_fault xs c.as_slice-sorted.result.now c.args.public.now.rc_min c.args.public.now.rc_max) (rw (c.deref.ensures.value, c.deref-2.ensures.value, c.deref-3.ensures.value) at c.in_ok-values.ensures)
     ∙ ap (λ ys. first_range_fault (range_values (contents c.args.tables.now)) ys c.args.public.now.rc_min c.args.public.now.rc_max) c.as_slice-sorted.ensures.value) in
-    c.refused.ensures ∙ sym (small_by_fault (statement c.args.public.now) (contents c.args.tables.now) ∙ ap of_range_fault (sym fault_is ∙ c.in-Some.is))
+    c.refused.ensures ∙ sym (small_by_fault (range_values (contents c.args.tables.now)) c.args.tables.now.small.sorted.items c.args.public.now.rc_min c.args.public.now.rc_max ∙ ap of_range_fault (sym fault_is ∙ c.in-Some.is))
 
 pub returns-in-None : goal.returns-in-None
 returns-in-None c =
     let fault_is : c.in_ok-fault.field-0 ≡ first_range_fault (range_values (contents c.args.tables.now)) c.args.tables.now.small.sorted.items c.args.public.now.rc_min c.args.public.now.rc_max =
     c.in_ok-fault.ensures.fault
-    ∙ (ap (λ xs. first_range_fault xs c.as_slice-sorted.result.now c.args.public.now.rc_min c.args.public.now.rc_max) c.in_ok-values.ensures
+    ∙ (ap (λ xs. first_range_fault xs c.as_slice-sorted.result.now c.args.public.now.rc_min c.args.public.now.rc_max) (rw (c.deref.ensures.value, c.deref-2.ensures.value, c.deref-3.ensures.value) at c.in_ok-values.ensures)
     ∙ ap (λ ys. first_range_fault (range_values (contents c.args.tables.now)) ys c.args.public.now.rc_min c.args.public.now.rc_max) c.as_slice-sorted.ensures.value) in
-    sym (small_by_fault (statement c.args.public.now) (contents c.args.tables.now) ∙ ap of_range_fault (sym fault_is ∙ c.in-None.is))
+    sym (small_by_fault (range_values (contents c.args.tables.now)) c.args.tables.now.small.sorted.items c.args.public.now.rc_min c.args.public.now.rc_max ∙ ap of_range_fault (sym fault_is ∙ c.in-None.is))

@@ -1,9 +1,18 @@
-use Rattle.std.proofs.Common.{◌≡◌, ◌-◌, length, get_or, ap, ◌∙◌, arith}
-use Rattle.memory_columns.specs.Filling.{unaccessed, IsCause}
+use Rattle.std.proofs.Common.{◌≡◌, ◌-◌, List, length, get_or, ap, subst, sym, ◌∙◌, arith, Result, Ok, Err, IsErrAnd, IfErr}
+use Rattle.goldilocks.specs.declared.Pair.{Pair}
+use Rattle.memory_columns.specs.declared.fault.SortFault.{SortFault}
+use Rattle.memory_columns.specs.declared.fault.SortFault.TheVariants.{Memory}
+use Rattle.memory_columns.specs.Filling.{unaccessed, HasRoom, IsCause}
 use Rattle.memory_columns.proofs.Fillings.{Ordered, ordered_ascend, ordered_spans, accessed_spans, ordered_range, same_unaccessed, are_fillers, sorted_accesses, fillers_fit, columns_no_fault}
 use Rattle.memory_columns.proofs.sorting.sort_columns.Given.{Over}
 use Rattle.memory_columns.proofs.sorting.sort_columns.Goals as goal
 use Rattle.memory_columns.proofs.sorting.sort_columns.Goals.{After-deref}
+
+-- want of memory comes where there is room
+memory_cause : {A : Type 0} (accesses : List Pair) (r : Result A SortFault) → HasRoom accesses → IsErrAnd r (λ e. e ≡ Memory) → IfErr r (IsCause accesses)
+unfolding IsCause
+memory_cause accesses (Ok a) room is = tt
+memory_cause accesses (Err e) room is = subst (IsCause accesses) (sym is) room
 
 -- the accesses as they are after the first sort
 ordered : (g : Over) (c : After-deref g) → Ordered c.args.accesses.items c.sort_unstable.new.self.items c.index.result.now c.index-2.result.now
@@ -35,29 +44,39 @@ filled-requires-clause-ascends g c = ordered_ascend c.args.accesses.items c.sort
 pub filled-requires-clause-within : goal.filled-requires-clause-within
 filled-requires-clause-within g c = (ordered_spans c.args.accesses.items c.sort_unstable.new.self.items c.index.result.now c.index-2.result.now (ordered g (goal.at.filled-requires-clause-within g c).After-deref)).within
 
-pub returns-then-gap_count-gt-FILL_LIMIT-clause-too_wide : goal.returns-then-gap_count-gt-FILL_LIMIT-clause-too_wide
+pub returns-then-gap_count-gt-FILLER_LIMIT-clause-cause : goal.returns-then-gap_count-gt-FILLER_LIMIT-clause-cause
 unfolding IsCause unaccessed
-returns-then-gap_count-gt-FILL_LIMIT-clause-too_wide g c =
-    let o : Ordered c.args.accesses.items c.sort_unstable.new.self.items c.index.result.now c.index-2.result.now = (ordered g (goal.at.returns-then-gap_count-gt-FILL_LIMIT-clause-too_wide g c).After-deref) in
+returns-then-gap_count-gt-FILLER_LIMIT-clause-cause g c =
+    let o : Ordered c.args.accesses.items c.sort_unstable.new.self.items c.index.result.now c.index-2.result.now = (ordered g (goal.at.returns-then-gap_count-gt-FILLER_LIMIT-clause-cause g c).After-deref) in
     let count : c.gap_count.result ≡ length (unaccessed c.args.accesses.items c.index.result.now.addr.number c.index-2.result.now.addr.number) =
     (rw c.deref.ensures.value at c.gap_count.ensures) ∙ ap length (same_unaccessed c.args.accesses.items c.sort_unstable.new.self.items c.index.result.now c.index-2.result.now o) in
     (accessed_spans c.args.accesses.items c.sort_unstable.new.self.items c.index.result.now c.index-2.result.now o, omega (arith, count))
 
-pub returns-in-Ok-clause-fill : goal.returns-in-Ok-clause-fill
-returns-in-Ok-clause-fill g c = are_fillers c.args.accesses.items c.sort_unstable.new.self.items c.index.result.now c.index-2.result.now (ordered g (goal.at.returns-in-Ok-clause-fill g c).After-deref) (g.M.Reads.cells c.args.m.now) c.in-Ok.columns.fill.items c.in-Ok.columns.sorted.items c.in-Ok.ensures.fill c.in-Ok.ensures.sorted
+pub returns-clause-fill : goal.returns-clause-fill
+returns-clause-fill g c = are_fillers c.args.accesses.items c.sort_unstable.new.self.items c.index.result.now c.index-2.result.now (ordered g (goal.at.returns-clause-fill g c).After-deref) (g.M.Reads.cells c.args.m.now) c.in_ok-filled.field-0.fill.items c.in_ok-filled.field-0.sorted.items c.in_ok-filled.ensures.fill c.in_ok-filled.ensures.sorted
 
-pub returns-in-Ok-clause-sorted : goal.returns-in-Ok-clause-sorted
-returns-in-Ok-clause-sorted g c = sorted_accesses c.args.accesses.items c.sort_unstable.new.self.items c.index.result.now c.index-2.result.now (ordered g (goal.at.returns-in-Ok-clause-sorted g c).After-deref) (g.M.Reads.cells c.args.m.now) c.in-Ok.columns.fill.items c.in-Ok.columns.sorted.items c.in-Ok.ensures.fill c.in-Ok.ensures.sorted
+pub returns-clause-sorted : goal.returns-clause-sorted
+returns-clause-sorted g c = sorted_accesses c.args.accesses.items c.sort_unstable.new.self.items c.index.result.now c.index-2.result.now (ordered g (goal.at.returns-clause-sorted g c).After-deref) (g.M.Reads.cells c.args.m.now) c.in_ok-filled.field-0.fill.items c.in_ok-filled.field-0.sorted.items c.in_ok-filled.ensures.fill c.in_ok-filled.ensures.sorted
 
-pub returns-in-Ok-clause-room : goal.returns-in-Ok-clause-room
+pub returns-clause-room : goal.returns-clause-room
 unfolding unaccessed
-returns-in-Ok-clause-room g c =
+returns-clause-room g c =
     let count : c.gap_count.result ≡ length (unaccessed c.sort_unstable.new.self.items c.index.result.now.addr.number c.index-2.result.now.addr.number) = rw c.deref.ensures.value at c.gap_count.ensures in
-    fillers_fit c.args.accesses.items c.sort_unstable.new.self.items c.index.result.now c.index-2.result.now (ordered g (goal.at.returns-in-Ok-clause-room g c).After-deref) (g.M.Reads.cells c.args.m.now) c.in-Ok.columns.fill.items c.in-Ok.columns.sorted.items c.in-Ok.ensures.fill c.in-Ok.ensures.sorted (omega (arith, count))
+    fillers_fit c.args.accesses.items c.sort_unstable.new.self.items c.index.result.now c.index-2.result.now (ordered g (goal.at.returns-clause-room g c).After-deref) (g.M.Reads.cells c.args.m.now) c.in_ok-filled.field-0.fill.items c.in_ok-filled.field-0.sorted.items c.in_ok-filled.ensures.fill c.in_ok-filled.ensures.sorted (omega (arith, count))
 
-pub returns-in-Ok-clause-no_fault : goal.returns-in-Ok-clause-no_fault
-returns-in-Ok-clause-no_fault g c = columns_no_fault c.args.accesses.items c.sort_unstable.new.self.items c.index.result.now c.index-2.result.now (ordered g (goal.at.returns-in-Ok-clause-no_fault g c).After-deref) (g.M.Reads.cells c.args.m.now) c.in-Ok.columns.fill.items c.in-Ok.columns.sorted.items c.in-Ok.ensures.fill c.in-Ok.ensures.sorted
+pub returns-clause-no_fault : goal.returns-clause-no_fault
+returns-clause-no_fault g c = columns_no_fault c.args.accesses.items c.sort_unstable.new.self.items c.index.result.now c.index-2.result.now (ordered g (goal.at.returns-clause-no_fault g c).After-deref) (g.M.Reads.cells c.args.m.now) c.in_ok-filled.field-0.fill.items c.in_ok-filled.field-0.sorted.items c.in_ok-filled.ensures.fill c.in_ok-filled.ensures.sorted
 
-pub returns-in-Err-clause-too_wide : goal.returns-in-Err-clause-too_wide
-unfolding IsCause
-returns-in-Err-clause-too_wide g c = tt
+pub returns-in_err-filled-clause-cause : goal.returns-in_err-filled-clause-cause
+unfolding IsCause unaccessed
+returns-in_err-filled-clause-cause g c =
+    let o : Ordered c.args.accesses.items c.sort_unstable.new.self.items c.index.result.now c.index-2.result.now = (ordered g (goal.at.returns-in_err-filled-clause-cause g c).After-deref) in
+    let count : c.gap_count.result ≡ length (unaccessed c.args.accesses.items c.index.result.now.addr.number c.index-2.result.now.addr.number) =
+    (rw c.deref.ensures.value at c.gap_count.ensures) ∙ ap length (same_unaccessed c.args.accesses.items c.sort_unstable.new.self.items c.index.result.now c.index-2.result.now o) in
+    let room : HasRoom c.args.accesses.items = record {
+      least = c.index.result.now.addr.number;
+      greatest = c.index-2.result.now.addr.number;
+      spans = accessed_spans c.args.accesses.items c.sort_unstable.new.self.items c.index.result.now c.index-2.result.now o;
+      few = omega (arith, count);
+    } in
+    memory_cause c.args.accesses.items c.from_residual.result room c.from_residual.ensures.1

@@ -1,9 +1,8 @@
 use Rattle.std.proofs.Common.{◌≡◌, Some, None}
 use Rattle.serde_json.specs.View.{view}
 use Rattle.json_fields.specs.Values.{json_of}
-use Rattle.program_file.proofs.Lines.{reading-no_json, told, refused}
 use Rattle.program_file.specs.declared.faults.ProgramFault.TheVariants as fault
-use Rattle.program_file.proofs.Spelling.{answer_spells, answer_spells_nothing, fault_spells_nothing}
+use Rattle.program_file.proofs.Spelling.{reading-no_json, told, refused, answer_spells, answer_spells_nothing, fault_spells_nothing}
 use Rattle.program_file.proofs.reading.read.Goals as goal
 
 pub returns-in_default-clause-fault : goal.returns-in_default-clause-fault

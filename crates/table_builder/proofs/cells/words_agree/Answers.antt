@@ -1,7 +1,7 @@
 use Rattle.std.proofs.Common.{◌<◌, ◌∙◌, length, Option, refl, arith}
 use Rattle.goldilocks.specs.declared.Pair.{Pair}
-use Rattle.constraint_checker.specs.Lists.{cells_from}
-use Rattle.constraint_checker.proofs.CellLists.{next_address}
+use Rattle.goldilocks.specs.Cells.{cells_from}
+use Rattle.access_lists.proofs.Pieces.{next_address}
 use Rattle.table_builder.specs.Findings.{Finding, cell_finding}
 use Rattle.table_builder.proofs.Told.{handed_on}
 use Rattle.table_builder.proofs.Loops.{nothing_more, found_here, nothing_found}

@@ -1,7 +1,7 @@
 use Rattle.std.proofs.Common.{◌≡◌, ◌+◌, ◌%◌, map, take, None}
 use Rattle.goldilocks.specs.Field.{prime}
 use Rattle.goldilocks.specs.declared.Pair.{Pair}
-use Rattle.constraint_checker.specs.Lists.{cells_from}
+use Rattle.goldilocks.specs.Cells.{cells_from}
 use Rattle.table_builder.specs.Findings.{cell_finding, first_found}
 use Rattle.table_builder.proofs.cells.words_agree.Given as goal
 

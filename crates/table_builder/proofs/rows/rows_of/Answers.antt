@@ -1,4 +1,5 @@
-use Rattle.std.proofs.Common.{◌≡◌, ◌+◌, ◌-◌, ◌∙◌, map, Some, refl, ap, arith}
+use Rattle.std.proofs.Common.{◌≡◌, ◌+◌, ◌-◌, ◌∙◌, map, Some, refl, ap, subst, arith}
+use Rattle.std.specs.Prelude.{IsSome}
 use Rattle.casm_word.specs.Transition.{registers, outcome}
 use Rattle.casm_word.proofs.RefusedSteps.{refused_here, refused_later, first_refused-end}
 use Rattle.table_builder.specs.Findings.{Step}
@@ -7,6 +8,18 @@ use Rattle.table_builder.proofs.rows.rows_of.Goals as goal
 
 pub loop-next-init : goal.loop-next-init
 loop-next-init g c = record { legal = refl; rows = c.in_ok-rows.ensures.items }
+
+pub refused_step-requires-clause-some : goal.refused_step-requires-clause-some
+refused_step-requires-clause-some g c =
+    let m = g.M.Reads.cells c.args.m.now in
+    let states = c.args.states.now in
+    let i = c.loop-next.next in
+    let before = c.index-states-next.result in
+    let at = c.index-states-next-in-loop-next.result in
+    let refused : Some (i - 1, outcome m (registers before)) ≡ _ =
+    refused_here m states i before at (outcome m (registers before)) (omega arith) (omega arith) c.index-states-next.is c.index-states-next-in-loop-next.is refl c.loop-next.invariant.legal
+    (step_stays m (registers before) (registers at) c.in-None.ensures.some.1) in
+    subst (λ o. IsSome o) refused refl
 
 pub returns-in-None : goal.returns-in-None
 returns-in-None g c =
@@ -18,8 +31,8 @@ returns-in-None g c =
     let refused : Some (i - 1, outcome m (registers before)) ≡ _ =
     refused_here m states i before at (outcome m (registers before)) (omega arith) (omega arith) c.index-states-next.is c.index-states-next-in-loop-next.is refl c.loop-next.invariant.legal
     (step_stays m (registers before) (registers at) c.in-None.ensures.some.1) in
-    rw (c.refused_step.ensures before) (step_refused m (map registers states) (i - 1) (registers before) refused
-    ∙ ap (λ s. Some (Step (i - 1) (outcome m (registers s)))) c.index-states-next.is)
+    let found = step_refused m (map registers states) (i - 1) (registers before) refused in
+    rw (c.refused_step.ensures ∙ found) found
 
 pub loop-next-preserved : goal.loop-next-preserved
 loop-next-preserved g c =

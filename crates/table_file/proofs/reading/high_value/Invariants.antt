@@ -1,6 +1,6 @@
 use Rattle.std.proofs.Common.{ℕ, ◌<◌}
 use Rattle.goldilocks.specs.Field.{prime}
-use Rattle.goldilocks.specs.FileNumbers.{number_at}
+use Rattle.file_records.specs.Numbers.{number_at}
 use Rattle.table_file.specs.Faults.{value_place}
 use Rattle.table_file.proofs.reading.high_value.Given as goal
 

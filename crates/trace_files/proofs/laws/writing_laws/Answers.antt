@@ -10,4 +10,4 @@ returns-clause-trace c =
 
 pub returns-clause-memory : goal.returns-clause-memory
 returns-clause-memory c =
-    λ cells most fit rises. memory_reading-spelled (memory_bytes cells) cells (SpellsMemory-written cells most fit rises)
+    λ cells most rises. memory_reading-spelled (memory_bytes cells) cells (SpellsMemory-written cells most rises)

@@ -1,47 +1,33 @@
-use Rattle.std.proofs.Common.{map, inl, inr, arith}
-use Rattle.std.proofs.lemmas.Result.{MatchResult-from_both}
+use Rattle.std.proofs.Common.{◌≡◌, ◌≢◌, ◌/◌, Err, IsOk, length, map, refl, rules}
 use Rattle.casm_word.specs.Transition.{registers}
-use Rattle.trace_files.specs.declared.fault.FileFault.TheVariants.{TooMany, Length}
-use Rattle.trace_files.proofs.TraceFile.{trace_has_no_fault, trace_read_all, trace_read_reading, trace_reading-fault}
+use Rattle.trace_files.specs.TraceFile.{states_in, trace_reading}
+use Rattle.trace_files.specs.declared.fault.FileFault.TheVariants.{Memory}
+use Rattle.trace_files.proofs.TraceFile.{trace_is_unique, trace_fault_all, trace_reading-fault, trace_reading-spelled, SpellsTrace-read}
 use Rattle.trace_files.proofs.trace_file.read_trace.Goals as goal
-use Rattle.trace_files.proofs.trace_file.read_trace.Goals.{then-bytes-ne0-via-then-bytes-ne0, then-bytes-ne0-via-else-bytes-ne0+then-bytes}
 
-pub returns-then-bytes-gt-TRACE_LIMIT-clause-complete :
-    goal.returns-then-bytes-gt-TRACE_LIMIT-clause-complete
-returns-then-bytes-gt-TRACE_LIMIT-clause-complete c =
-    λ states spells. absurd (trace_has_no_fault c.args.bytes.now states TooMany spells (omega arith))
+pub returns-in_err-check-clause-complete : goal.returns-in_err-check-clause-complete
+returns-in_err-check-clause-complete c = λ states spells.
+    let short : c.in_err-check.field-0.0 ≡ Memory = trace_fault_all c.args.bytes.now c.in_err-check.field-0.0 c.in_err-check.ensures.fault states spells in
+    search rules
 
-pub returns-then-bytes-ne0-clause-complete : goal.returns-then-bytes-ne0-clause-complete
-returns-then-bytes-ne0-clause-complete c =
-    λ states spells. absurd (trace_has_no_fault c.args.bytes.now states Length spells (
-      omega arith,
-      elim c.then-bytes-ne0.branch [
-        | then-bytes-ne0-via-then-bytes-ne0 w ↦ inl w.if-bytes-ne0.true
-        | then-bytes-ne0-via-else-bytes-ne0+then-bytes w ↦ inr (omega arith)
-      ],
-    ))
+pub returns-in_err-check-clause-reading : goal.returns-in_err-check-clause-reading
+returns-in_err-check-clause-reading c =
+    let told : c.in_err-check.field-0.0 ≢ Memory → trace_reading c.args.bytes.now ≡ Err c.in_err-check.field-0.0 = λ _. trace_reading-fault c.args.bytes.now c.in_err-check.field-0.0 c.in_err-check.ensures.fault in
+    search rules
+
+pub returns-in_err-states-clause-memory : goal.returns-in_err-states-clause-memory
+returns-in_err-states-clause-memory c =
+    let read : IsOk (trace_reading c.args.bytes.now) = rw (trace_reading-spelled c.args.bytes.now (states_in c.args.bytes.now) c.in_ok-check.ensures.spells) refl in
+    search rules
+
+pub returns-clause-spelled : goal.returns-clause-spelled
+returns-clause-spelled c =
+    SpellsTrace-read c.args.bytes.now (length c.args.bytes.now / 24) c.in_ok-states.states.items c.in_ok-check.ensures.numbers refl c.in_ok-states.ensures c.in_ok-check.ensures.spells
 
 pub returns-clause-complete : goal.returns-clause-complete
 returns-clause-complete c =
-    trace_read_all (λ v. map registers v.items) c.args.bytes.now c.states_of.result
-    (MatchResult-from_both c.states_of.result _ _ c.states_of.ensures.spelled c.states_of.ensures.fault)
-
-pub returns-then-bytes-gt-TRACE_LIMIT-clause-reading :
-    goal.returns-then-bytes-gt-TRACE_LIMIT-clause-reading
-returns-then-bytes-gt-TRACE_LIMIT-clause-reading c =
-    λ _. trace_reading-fault c.args.bytes.now TooMany (omega arith)
-
-pub returns-then-bytes-ne0-clause-reading : goal.returns-then-bytes-ne0-clause-reading
-returns-then-bytes-ne0-clause-reading c =
-    λ _. trace_reading-fault c.args.bytes.now Length (
-      omega arith,
-      elim c.then-bytes-ne0.branch [
-        | then-bytes-ne0-via-then-bytes-ne0 w ↦ inl w.if-bytes-ne0.true
-        | then-bytes-ne0-via-else-bytes-ne0+then-bytes w ↦ inr (omega arith)
-      ],
-    )
+    λ states spells. trace_is_unique c.args.bytes.now (map registers c.in_ok-states.states.items) states (returns-clause-spelled c) spells
 
 pub returns-clause-reading : goal.returns-clause-reading
 returns-clause-reading c =
-    trace_read_reading (λ v. map registers v.items) c.args.bytes.now c.states_of.result
-    (MatchResult-from_both c.states_of.result _ _ c.states_of.ensures.spelled c.states_of.ensures.fault)
+    trace_reading-spelled c.args.bytes.now (map registers c.in_ok-states.states.items) (returns-clause-spelled c)

@@ -4,7 +4,7 @@ use Rattle.std.proofs.lemmas.List.{get_or_default}
 use Rattle.segments.specs.declared.Place.{Place}
 use Rattle.segments.specs.declared.Value.{Value}
 use Rattle.segments.specs.Columns.{HasOffset, kept_memory, with_value}
-use Rattle.segments.specs.Memory.{RunMemory, IsMemory, Grows, size, with_cell, put_cause, cell_limit}
+use Rattle.segments.specs.Memory.{RunMemory, IsMemory, Grows, size, with_cell, put_cause, total_limit}
 use Rattle.segments.proofs.Columns.{Cells, kept-with_cell, size-kept, count-kept}
 use Rattle.segments.proofs.Memories.{MayPut, may_put, IsMemory-with_cell, Grows-with_cell, program_fixed, again_none, total-with_cell, offset_within, with_cell_again}
 use Rattle.segments.proofs.memory.Segments.put.Goals as goal
@@ -85,7 +85,7 @@ pub overflow_cast-self : goal.overflow_cast-self
 overflow_cast-self c =
     let none : put_cause c.args.self.now c.args.place c.args.value ≡ None = sym c.put_cause.ensures.cause ∙ c.in_default.is in
     let is : IsMemory c.args.self.now = subst (λ (m : RunMemory). IsMemory m) c.self.view_is c.self.invariant.0 in
-    let low : c.args.place.off < cell_limit = offset_within c.args.self.now c.args.place c.args.value is none in
+    let low : c.args.place.off < total_limit = offset_within c.args.self.now c.args.place c.args.value is none in
     omega arith
 
 pub overflow_add-self : goal.overflow_add-self
@@ -95,5 +95,5 @@ overflow_add-self c =
     let sums : c.self.inside.total + c.saturating_sub-growth.result ≡ sum (with_cell c.args.self.now c.args.place c.args.value).sizes =
     total c.self.inside.columns.items c.args.self.now c.args.place c.args.value c.index_mut-column.result.now c.self.inside.total c.saturating_sub-growth.result is c.self.view_is none c.index_mut-column.ensures.value c.self.invariant.1 (omega arith) in
     let offset : HasOffset c.args.value = c.in_default.ensures.offset refl in
-    let within : sum (with_cell c.args.self.now c.args.place c.args.value).sizes ≤ cell_limit = (IsMemory-with_cell c.args.self.now c.args.place c.args.value is offset none).total in
+    let within : sum (with_cell c.args.self.now c.args.place c.args.value).sizes ≤ total_limit = (IsMemory-with_cell c.args.self.now c.args.place c.args.value is offset none).total in
     omega arith

@@ -1,6 +1,6 @@
 use Rattle.std.proofs.Common.{◌≡◌, ◌≢◌, ◌<◌, ◌≤◌, ◌+◌, ◌-◌, ◌&&◌, true, false, arith, sym, ◌∙◌, ap}
 use Rattle.std.specs.Prelude.{sum}
-use Rattle.segments.specs.Memory.{has_segment, names_segment, conflict, size, cell_limit, IsMemory}
+use Rattle.segments.specs.Memory.{has_segment, names_segment, conflict, size, total_limit, IsMemory}
 use Rattle.segments.proofs.Memories.{cause_absent, cause_inside, cause_fixed, cause_limit, cause_none, there_inside}
 use Rattle.segments.proofs.memory.Segments.put_cause.Goals as goal
 
@@ -31,7 +31,7 @@ returns-then-place-size-2-clause-cause c =
     let there : (has_segment m c.args.place.seg && names_segment m c.args.value) ≡ true = cc in
     let other : c.args.place.seg ≢ 0 = omega arith in
     let past : size m c.args.place.seg ≤ c.args.place.off = omega (arith, c.size-size.ensures.size) in
-    let over : cell_limit ≤ sum m.sizes + (c.args.place.off - size m c.args.place.seg) = omega (arith, c.size-size.ensures.size, c.total.ensures.total, is.total) in
+    let over : total_limit ≤ sum m.sizes + (c.args.place.off - size m c.args.place.seg) = omega (arith, c.size-size.ensures.size, c.total.ensures.total, is.total) in
     sym (cause_limit m c.args.place c.args.value there (there_inside m c.args.place c.args.value there) other past over)
 
 pub returns-clause-cause : goal.returns-clause-cause
@@ -41,5 +41,5 @@ returns-clause-cause c =
     let there : (has_segment m c.args.place.seg && names_segment m c.args.value) ≡ true = cc in
     let other : c.args.place.seg ≢ 0 = omega arith in
     let past : size m c.args.place.seg ≤ c.args.place.off = omega (arith, c.size-size.ensures.size) in
-    let under : sum m.sizes + (c.args.place.off - size m c.args.place.seg) < cell_limit = omega (arith, c.size-size.ensures.size, c.total.ensures.total, is.total) in
+    let under : sum m.sizes + (c.args.place.off - size m c.args.place.seg) < total_limit = omega (arith, c.size-size.ensures.size, c.total.ensures.total, is.total) in
     sym (cause_none m c.args.place c.args.value is there (there_inside m c.args.place c.args.value there) other past under)

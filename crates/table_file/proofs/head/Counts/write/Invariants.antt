@@ -1,5 +1,5 @@
 use Rattle.std.proofs.Common.{◌≡◌, ◌++◌, take}
-use Rattle.table_file.specs.FileNumbers.{numbers_bytes}
+use Rattle.file_records.specs.Numbers.{numbers_bytes}
 use Rattle.table_file.specs.Parts.{counts_of}
 use Rattle.table_file.proofs.head.Counts.write.Given as goal
 

@@ -1,0 +1,3 @@
+pub mod Accesses
+pub mod SmallValues
+pub use Rattle.goldilocks.specs.Cells

@@ -1,0 +1,10 @@
+pub mod Status
+pub mod Answer
+pub mod Formats
+pub mod Evidence
+pub mod Finishes
+pub mod Parts
+pub use Rattle.file_port.specs.Files
+pub use Rattle.file_port.specs.Counts
+pub use Rattle.file_port.specs.Ports
+pub use Rattle.file_port.specs.Seen

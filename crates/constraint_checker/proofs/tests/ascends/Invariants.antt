@@ -1,6 +1,0 @@
-use Rattle.std.proofs.Common.{ℕ, ◌+◌, ◌<◌, get_or}
-use Rattle.public_input.specs.Valid.{addresses}
-use Rattle.constraint_checker.proofs.tests.ascends.Given as goal
-
-abbrev pub invariant-loop-next : goal.invariant-loop-next
-invariant-loop-next l = (k : ℕ) → k + 1 < l.next → get_or (addresses l.cells) k 0 < get_or (addresses l.cells) (k + 1) 0

@@ -1,0 +1,5 @@
+//! Tables of files. What they say, and their faults, were written by hand from the formats.
+
+mod programs;
+mod statements;
+mod values;

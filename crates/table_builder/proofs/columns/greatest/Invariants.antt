@@ -1,6 +1,0 @@
-use Rattle.std.proofs.Common.{◌≡◌, max, fold, take}
-use Rattle.cpu_rows.specs.Columns.{numbers}
-use Rattle.table_builder.proofs.columns.greatest.Given as goal
-
-abbrev pub invariant-loop-value : goal.invariant-loop-value
-invariant-loop-value l = l.greatest ≡ fold max l.initial.greatest (numbers (take l.value-index l.values))

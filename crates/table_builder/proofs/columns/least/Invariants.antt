@@ -1,6 +1,0 @@
-use Rattle.std.proofs.Common.{◌≡◌, min, fold, take}
-use Rattle.cpu_rows.specs.Columns.{numbers}
-use Rattle.table_builder.proofs.columns.least.Given as goal
-
-abbrev pub invariant-loop-value : goal.invariant-loop-value
-invariant-loop-value l = l.least ≡ fold min l.initial.least (numbers (take l.value-index l.values))

@@ -1,8 +1,0 @@
-use Rattle.std.proofs.Common.{◌≡◌, length, rules}
-use Rattle.table_file.proofs.Spelled.{sixteen_of_values}
-use Rattle.table_file.proofs.items.RowItem.write.Goals as goal
-
-pub returns-clause-fits : goal.returns-clause-fits
-returns-clause-fits c =
-    let whole : length c.values.result ≡ 33 = search rules in
-    sixteen_of_values c.args.self.now c.values.result whole c.values.ensures
