@@ -61,8 +61,8 @@ impl Flags {
         s.pc.add(self.size())
     }
 
-    /// What the instruction computes of its operands.
-    fn res(self, op0: Felt, op1: Felt) -> Felt
+    /// What the instruction computes of its operands: their sum, their product, or op1.
+    pub fn res(self, op0: Felt, op1: Felt) -> Felt
         ensures { result.number ≡ res self op0.number op1.number }
     {
         if self.res_add {

@@ -10,7 +10,7 @@ use Rattle.program_file.specs.Listing.{Listing}
 use Rattle.public_input.specs.Statement.{Statement}
 use Rattle.table_file.specs.Tables.{Contents}
 use Rattle.constraint_checker.specs.declared.Verdict.TheVariants.{Accepted}
-use Rattle.constraint_checker.specs.Lists.{accesses, range_values}
+use Rattle.constraint_checker.specs.Lists.{accesses, table_small_values}
 use Rattle.constraint_checker.specs.Constraints.{MeetsAll, rows_with_next, start_conditions, row_conditions, end_conditions, limb_conditions}
 use Rattle.constraint_checker.specs.Verdict.{verdict_on, verdict}
 use Rattle.constraint_checker.specs.Parts.{run_conditions}
@@ -54,12 +54,12 @@ module _ (program : Listing) (public : Statement) (tables : Contents) where
         λ h. memory_by_fault (accesses program public tables) tables.pairs ∙ ap of_list_fault (exactly.1 h),
       )
 
-  small_parts : (verdict_on (on_small_values public tables) ≡ Accepted) ↔ (Q1 tables.sorted_range public.rc_min × Q2 tables.sorted_range × Q3 tables.sorted_range public.rc_max × Q4 (range_values tables) tables.sorted_range)
+  small_parts : (verdict_on (on_small_values public tables) ≡ Accepted) ↔ (Q1 tables.sorted_range public.rc_min × Q2 tables.sorted_range × Q3 tables.sorted_range public.rc_max × Q4 (table_small_values tables) tables.sorted_range)
   small_parts =
-      let fault = first_range_fault (range_values tables) tables.sorted_range public.rc_min public.rc_max in
-      let exactly = no_range_fault (range_values tables) tables.sorted_range public.rc_min public.rc_max in (
-        λ e. exactly.0 (no_small_fault fault (sym (small_by_fault (range_values tables) tables.sorted_range public.rc_min public.rc_max) ∙ e)),
-        λ h. small_by_fault (range_values tables) tables.sorted_range public.rc_min public.rc_max ∙ ap of_range_fault (exactly.1 h),
+      let fault = first_range_fault (table_small_values tables) tables.sorted_range public.rc_min public.rc_max in
+      let exactly = no_range_fault (table_small_values tables) tables.sorted_range public.rc_min public.rc_max in (
+        λ e. exactly.0 (no_small_fault fault (sym (small_by_fault (table_small_values tables) tables.sorted_range public.rc_min public.rc_max) ∙ e)),
+        λ h. small_by_fault (table_small_values tables) tables.sorted_range public.rc_min public.rc_max ∙ ap of_range_fault (exactly.1 h),
       )
 
   all_met : verdict program public tables ≡ Accepted → MeetsAll program public tables

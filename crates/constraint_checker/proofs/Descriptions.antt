@@ -29,7 +29,7 @@ use Rattle.public_input.specs.Valid.{KeepsLimits}
 use Rattle.table_file.specs.Tables.{Contents, AreValid}
 use Rattle.access_lists.specs.Accesses.{row_cells, range_cells, program_cells, accesses as accesses_of}
 use Rattle.access_lists.specs.SmallValues.{row_offsets, limbs, small_values}
-use Rattle.constraint_checker.specs.Lists.{accesses, range_values}
+use Rattle.constraint_checker.specs.Lists.{accesses, table_small_values}
 use Rattle.goldilocks.specs.Cells.{cell, cells_from}
 use Rattle.constraint_checker.specs.Constraints.{MeetsAll, states, first_state}
 use Rattle.constraint_checker.specs.Acceptance.{memory_in, DescribeRun}
@@ -126,10 +126,10 @@ module _ (program : Listing) (public : Statement) (tables : Contents) (few : len
   sorted_short : length tables.sorted_range < prime
   sorted_short = omega (arith, valid.row_count, valid.range_row_count, valid.range_filler_count, valid.sorted_range_count)
 
-  small : All (IsWithin public.rc_min public.rc_max) (range_values tables)
+  small : All (IsWithin public.rc_min public.rc_max) (table_small_values tables)
   small =
-      within_range (range_values tables) tables.sorted_range public.rc_min public.rc_max limits.in_order (omega (arith, limits.narrow)) sorted_short
-      ((no_range_fault (range_values tables) tables.sorted_range public.rc_min public.rc_max).1 (meets.q1, meets.q2, meets.q3, meets.q4))
+      within_range (table_small_values tables) tables.sorted_range public.rc_min public.rc_max limits.in_order (omega (arith, limits.narrow)) sorted_short
+      ((no_range_fault (table_small_values tables) tables.sorted_range public.rc_min public.rc_max).1 (meets.q1, meets.q2, meets.q3, meets.q4))
 
   small_parts : All (IsWithin public.rc_min public.rc_max) (flat_map row_offsets tables.rows) × All (IsWithin public.rc_min public.rc_max) (flat_map limbs tables.range)
   unfolding small_values

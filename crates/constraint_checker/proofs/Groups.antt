@@ -27,7 +27,7 @@ use Rattle.constraint_checker.specs.declared.Constraint.{Constraint}
 use Rattle.constraint_checker.specs.declared.Constraint.TheVariants.{C, V, M, Q}
 use Rattle.constraint_checker.specs.declared.Verdict.{Verdict}
 use Rattle.constraint_checker.specs.declared.Verdict.TheVariants.{Accepted, Refused}
-use Rattle.constraint_checker.specs.Lists.{accesses, range_values}
+use Rattle.constraint_checker.specs.Lists.{accesses, table_small_values}
 use Rattle.constraint_checker.specs.Constraints.{Condition, condition, are_one, at_each, neighbours, start_conditions, row_conditions, end_conditions, limb_conditions, memory_conditions, small_conditions, conditions, rows_with_next}
 use Rattle.constraint_checker.specs.Verdict.{verdict_on, verdict}
 use Rattle.constraint_checker.specs.Parts.{run_conditions}
@@ -200,7 +200,7 @@ abbrev pub on_memory : Listing → Statement → Contents → List Condition
 on_memory program public tables = memory_conditions (accesses program public tables) tables.pairs
 
 abbrev pub on_small_values : Statement → Contents → List Condition
-on_small_values public tables = small_conditions (range_values tables) tables.sorted_range public.rc_min public.rc_max
+on_small_values public tables = small_conditions (table_small_values tables) tables.sorted_range public.rc_min public.rc_max
 
 pub by_groups : (program : Listing) (public : Statement) (tables : Contents) → verdict program public tables
     ≡ first_refused (first_refused (verdict_on (run_conditions program public tables)) (verdict_on (on_memory program public tables))) (verdict_on (on_small_values public tables))

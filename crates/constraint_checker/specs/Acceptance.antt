@@ -14,7 +14,7 @@ use Rattle.program_file.specs.Listing.{Listing}
 use Rattle.public_input.specs.Statement.{Statement}
 use Rattle.range_columns.specs.Limbs.{range_bound}
 use Rattle.table_file.specs.Tables.{Contents}
-use Rattle.constraint_checker.specs.Lists.{accesses, range_values}
+use Rattle.constraint_checker.specs.Lists.{accesses, table_small_values}
 use Rattle.constraint_checker.specs.Constraints.{states, last_state}
 
 -- The memory of the tables: at each address the value at its first place in the sorted pairs. The whitepaper proves of
@@ -45,7 +45,7 @@ pub record DescribeRun (program : Listing) (public : Statement) (tables : Conten
   pub last_pc : (last_state tables).pc ≡ 1 + program.end
   pub last_ap : (last_state tables).ap ≡ public.ap_last.number
   -- Every offset, every limb and every range filler lies from `rc_min` to `rc_max`.
-  pub small_values : All (IsWithin public.rc_min public.rc_max) (range_values tables)
+  pub small_values : All (IsWithin public.rc_min public.rc_max) (table_small_values tables)
   -- Each biased offset of a row is below 2^16.
   pub offsets : All HasSmallOffsets (map columns tables.rows)
   -- Each range cell is below 2^48, and there are as many as the public input says.

@@ -18,7 +18,7 @@ use Rattle.range_columns.specs.Equations.{is_number, first_number, last_number, 
 use Rattle.table_file.specs.Tables.{Contents}
 use Rattle.constraint_checker.specs.declared.Constraint.{Constraint}
 use Rattle.constraint_checker.specs.declared.Constraint.TheVariants.{P, C, V, M, Q}
-use Rattle.constraint_checker.specs.Lists.{accesses, range_values}
+use Rattle.constraint_checker.specs.Lists.{accesses, table_small_values}
 
 -- ---- what the constraints speak of
 
@@ -121,7 +121,7 @@ conditions program public tables =
     ++ end_conditions program public tables
     ++ limb_conditions 0 tables.range
     ++ memory_conditions (accesses program public tables) tables.pairs
-    ++ small_conditions (range_values tables) tables.sorted_range public.rc_min public.rc_max
+    ++ small_conditions (table_small_values tables) tables.sorted_range public.rc_min public.rc_max
 
 -- ---- the constraints, each once
 
@@ -151,4 +151,4 @@ pub record MeetsAll (program : Listing) (public : Statement) (tables : Contents)
   pub q1 : Q1 tables.sorted_range public.rc_min
   pub q2 : Q2 tables.sorted_range
   pub q3 : Q3 tables.sorted_range public.rc_max
-  pub q4 : Q4 (range_values tables) tables.sorted_range
+  pub q4 : Q4 (table_small_values tables) tables.sorted_range

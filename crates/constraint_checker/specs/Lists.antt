@@ -28,5 +28,5 @@ accesses program public tables = accesses_of (accessing program public tables)
 
 -- Every value of the range check: the offsets of each row, the limbs of each range cell, and the fillers. The
 -- whitepaper's permutation range-checks.
-abbrev pub range_values : Contents → List Felt
-range_values tables = small_values (record { rows = tables.rows; range_rows = tables.range; fillers = tables.range_fillers })
+abbrev pub table_small_values : Contents → List Felt
+table_small_values tables = small_values (record { rows = tables.rows; range_rows = tables.range; fillers = tables.range_fillers })

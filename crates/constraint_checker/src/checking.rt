@@ -7,7 +7,7 @@ ghost use Rattle.public_input.specs.Statement.{statement};
 ghost use Rattle.public_input.specs.Valid.{IsValid};
 ghost use Rattle.table_file.specs.Tables.{contents, AreValid};
 ghost use Rattle.access_lists.specs.Accesses.{access_parts};
-ghost use Rattle.constraint_checker.specs.Lists.{accessing, accesses, range_values};
+ghost use Rattle.constraint_checker.specs.Lists.{accessing, accesses, table_small_values};
 ghost use Rattle.constraint_checker.specs.Constraints.{first_state, rows_with_next, start_conditions, row_conditions, end_conditions};
 ghost use Rattle.constraint_checker.specs.Constraints.{limb_conditions, memory_conditions, small_conditions, MeetsAll};
 ghost use Rattle.constraint_checker.specs.Verdict.{verdict_on, verdict};
@@ -185,7 +185,7 @@ fn verdict_on_small_values(
     requires valid_tables { AreValid (contents tables.now) }
     requires some_row { 0 < length (contents tables.now).rows }
     ensures { IfOk result (λ v. v ≡ verdict_on (small_conditions
-        (range_values (contents tables.now)) (contents tables.now).sorted_range public.now.rc_min public.now.rc_max)) }
+        (table_small_values (contents tables.now)) (contents tables.now).sorted_range public.now.rc_min public.now.rc_max)) }
 {
     let small = SmallValues {
         rows: &tables.rows,

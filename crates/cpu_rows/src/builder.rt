@@ -128,7 +128,7 @@ fn res_column(flags: Flags, operands: Operands) -> Felt
     if flags.pc_jnz {
         inverse_or_zero(operands.dst)
     } else {
-        computed(flags, operands.op0, operands.op1)
+        flags.res(operands.op0, operands.op1)
     }
 }
 
@@ -137,19 +137,6 @@ fn inverse_or_zero(number: Felt) -> Felt
     ensures { IsInverseOrZero number.number result.number }
 {
     number.inverse().unwrap_or(Felt::ZERO)
-}
-
-/// What the instruction computes of its operands.
-fn computed(flags: Flags, op0: Felt, op1: Felt) -> Felt
-    ensures { result.number ≡ res flags op0.number op1.number }
-{
-    if flags.res_add {
-        op0.add(op1)
-    } else if flags.res_mul {
-        op0.mul(op1)
-    } else {
-        op1
-    }
 }
 
 /// The tilde values of the word `inst`.

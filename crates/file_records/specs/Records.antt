@@ -5,6 +5,7 @@ use Rattle.goldilocks.specs.declared.Felt.{Felt}
 use Rattle.goldilocks.specs.declared.Pair.{Pair}
 use Rattle.goldilocks.specs.Felts.{felt}
 use Rattle.casm_word.specs.declared.State.{State}
+use Rattle.casm_word.specs.Transition.{Registers}
 use Rattle.cpu_rows.specs.declared.Row.{Row}
 use Rattle.cpu_rows.specs.Columns.{columns, values}
 use Rattle.range_columns.specs.declared.RangeRow.{RangeRow}
@@ -17,9 +18,9 @@ row_values r = values (columns r)
 abbrev pub state_values : State → List ℕ
 state_values s = s.pc.number ∷ s.ap.number ∷ s.fp.number ∷ []
 
--- The values of a state as a trace file has them: ap, fp and pc. Own.
-abbrev pub trace_state_values : State → List ℕ
-trace_state_values s = s.ap.number ∷ s.fp.number ∷ s.pc.number ∷ []
+-- The values of registers as a trace file has them: ap, fp and pc. Own.
+abbrev pub trace_state_values : Registers → List ℕ
+trace_state_values s = s.ap ∷ s.fp ∷ s.pc ∷ []
 
 -- The values of a range row: the value and its three limbs. Own.
 abbrev pub range_row_values : RangeRow → List ℕ

@@ -4,6 +4,7 @@ ghost use Rattle.std.specs.Prelude.{◌≡◌, ◌+◌, ◌*◌, ◌≤◌, ◌+
 ghost use Rattle.std.specs.List.{flat_map};
 ghost use Rattle.goldilocks.specs.declared.Felt.{Felt};
 ghost use Rattle.goldilocks.specs.Felts.{numbers};
+ghost use Rattle.casm_word.specs.Transition.{registers};
 ghost use Rattle.file_records.specs.Numbers.{number_bytes, numbers_bytes};
 ghost use Rattle.file_records.specs.Records.{row_values, state_values, trace_state_values, range_row_values, pair_values, records_in, values_of_bytes, value_of_bytes, row_of_bytes, state_of_bytes, trace_state_of_bytes, range_row_of_bytes, pair_of_bytes};
 
@@ -169,7 +170,6 @@ impl Record for State {
 /// A state as trace files have it: ap, fp and pc.
 pub struct TraceState;
 
-#[tactic(auto, unfolding(crate::specs::Records::trace_state_of_bytes, crate::specs::Records::trace_state_of_values))]
 impl Record for TraceState {
     type Value = State;
 
@@ -177,17 +177,19 @@ impl Record for TraceState {
 
     ghost value_in = { trace_state_of_bytes };
 
-    ghost spelled = { λ s. numbers_bytes (trace_state_values s) };
+    ghost spelled = { λ s. numbers_bytes (trace_state_values (registers s)) };
 
     ghost fits = { λ _. ⊤ };
 
     const SIZE: usize = 24;
 
+    #[tactic(auto, unfolding(crate::specs::Records::trace_state_of_bytes, crate::specs::Records::trace_state_of_values))]
     fn read(bytes: &[u8]) -> State {
         let [ap, fp, pc] = read_values::<3>(bytes);
         State { pc, ap, fp }
     }
 
+    #[tactic(auto, unfolding(casm_word::specs::Transition::registers))]
     fn write(value: &State, out: &mut Vec<u8>) -> Result<(), AllocError> {
         write_values(out, &[value.ap, value.fp, value.pc])
     }

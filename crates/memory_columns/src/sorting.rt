@@ -14,7 +14,7 @@ use goldilocks::{Felt, Pair};
 use sorted_lists::{gap_count, gaps};
 use std::alloc::{AllocError, Global};
 
-/// The most fillers.
+/// The most fillers, in columns and in a file of tables.
 pub const FILLER_LIMIT: u64 = 2097152;
 
 /// The columns of the accesses, of which there has to be one. The fillers are the cells between the least and the

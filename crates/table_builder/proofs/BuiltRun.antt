@@ -27,7 +27,7 @@ use Rattle.range_columns.specs.declared.RangeRow.{RangeRow}
 use Rattle.table_file.specs.Tables.{Contents}
 use Rattle.table_builder.specs.declared.faults.BuildFault.{BuildFault}
 use Rattle.table_builder.specs.Rows.{row_at, as_row, rows_of, range_rows_of, last_of, as_state}
-use Rattle.table_builder.specs.Columns.{reads_of, values_of, reads, small_values, free_addresses, cells_at, tables_of}
+use Rattle.table_builder.specs.Columns.{reads_of, row_small_values, reads, run_small_values, free_addresses, cells_at, tables_of}
 use Rattle.table_builder.specs.Findings.{Finding, finding_of}
 use Rattle.table_builder.specs.Parts.{AreMemoryColumns, AreSmallColumns}
 use Rattle.table_builder.proofs.Kept.{state_kept}
@@ -59,19 +59,19 @@ module _ (program : Listing) (public : Statement) (m : Memory) (states : List Re
   unfolding reads
   reads_are = ap₂ (reads_of program public) rows_are range_are
 
-  pub small_are : values_of rows range ≡ small_values public m states
-  unfolding small_values
-  small_are = ap₂ values_of rows_are range_are
+  pub small_are : row_small_values rows range ≡ run_small_values public m states
+  unfolding run_small_values
+  small_are = ap₂ row_small_values rows_are range_are
 
-  pub tables_are : (fill pairs : List Pair) (absent sorted : List Felt) → AreMemoryColumns m (reads_of program public rows range) fill pairs → AreSmallColumns public (values_of rows range) absent sorted → tables_of program public m states ≡ record { rows = rows; last = last; range = range; fillers = fill; pairs = pairs; range_fillers = absent; sorted_range = sorted }
+  pub tables_are : (fill pairs : List Pair) (absent sorted : List Felt) → AreMemoryColumns m (reads_of program public rows range) fill pairs → AreSmallColumns public (row_small_values rows range) absent sorted → tables_of program public m states ≡ record { rows = rows; last = last; range = range; fillers = fill; pairs = pairs; range_fillers = absent; sorted_range = sorted }
   unfolding tables_of
   tables_are fill pairs absent sorted memory small =
       let fill_same : cells_at m (free_addresses (reads program public m states)) ≡ fill = sym (memory.fillers ∙ ap (λ xs. cells_at m (free_addresses xs)) reads_are) in
       let pairs_same : in_order pair_cmp (reads program public m states ++ cells_at m (free_addresses (reads program public m states))) ≡ pairs =
       ap₂ (λ xs ys. in_order pair_cmp (xs ++ ys)) (sym reads_are) fill_same ∙ sym memory.in_turn in
-      let absent_same : map felt (absent_values (small_values public m states) public.rc_min public.rc_max) ≡ absent =
+      let absent_same : map felt (absent_values (run_small_values public m states) public.rc_min public.rc_max) ≡ absent =
       sym (small.fillers ∙ ap (λ vs. map felt (absent_values vs public.rc_min public.rc_max)) small_are) in
-      let sorted_same : in_order felt_cmp (small_values public m states ++ map felt (absent_values (small_values public m states) public.rc_min public.rc_max)) ≡ sorted =
+      let sorted_same : in_order felt_cmp (run_small_values public m states ++ map felt (absent_values (run_small_values public m states) public.rc_min public.rc_max)) ≡ sorted =
       ap₂ (λ xs ys. in_order felt_cmp (xs ++ ys)) (sym small_are) absent_same ∙ sym small.in_turn in
       let rows_same = sym rows_are in
       let last_same = sym last_is in

@@ -18,10 +18,10 @@ use Rattle.public_input.specs.Valid.{KeepsLimits}
 use Rattle.goldilocks.specs.Cells.{addresses}
 use Rattle.table_file.specs.Tables.{Contents}
 use Rattle.access_lists.specs.Accesses.{program_cells, range_cells, accesses as accesses_of}
-use Rattle.access_lists.specs.SmallValues.{small_values as small_values_of}
-use Rattle.constraint_checker.specs.Lists.{accesses, range_values}
+use Rattle.access_lists.specs.SmallValues.{small_values}
+use Rattle.constraint_checker.specs.Lists.{accesses, table_small_values}
 use Rattle.table_builder.specs.Rows.{first_of, no_state, as_row, rows_of}
-use Rattle.table_builder.specs.Columns.{least_of, greatest_of, reads, small_values, tables_of}
+use Rattle.table_builder.specs.Columns.{least_of, greatest_of, reads, run_small_values, tables_of}
 use Rattle.table_builder.specs.Findings.{first_found, findings}
 use Rattle.table_builder.specs.Building.{building}
 use Rattle.table_builder.specs.TablesOf.{HasFieldValues, AreInField, AreTablesOf}
@@ -48,7 +48,7 @@ registers_are r pc apc fp p q s = λ i. record { pc = p i; ap = q i; fp = s i }
 
 module _ (program : Listing) (public : Statement) (m : Memory) (states : List Registers) (low : HasFieldValues m) (small : AreInField states) (limits : KeepsLimits public) where
   pub are_tables : Answered program public m states → AreTablesOf program public m states (tables_of program public m states)
-  unfolding tables_of Holds reads small_values accesses_of range_cells small_values_of rows_of
+  unfolding tables_of Holds reads run_small_values accesses_of range_cells small_values rows_of
   are_tables answers =
       let ends = answers.ends in
       let some : 2 ≤ length states = omega (arith, ends.steps, limits.some_step) in
@@ -74,7 +74,7 @@ module _ (program : Listing) (public : Statement) (m : Memory) (states : List Re
         last = last_kept m states low small run;
         range_count = length-range_rows_of public m;
         range = All-weaker IsCut (λ row. (row.value.number < 2 ^ 48) × IsSplitOf row.value.number row) (λ row is. (is.below, is.split)) tables.range (all_cut public m answers.range);
-        small_values = small_within (small_values public m states) public.rc_min public.rc_max answers.least answers.greatest;
+        small_values = small_within (run_small_values public m states) public.rc_min public.rc_max answers.least answers.greatest;
         fillers = record {
           least = least_of (addresses accessed);
           greatest = greatest_of (addresses accessed);
@@ -82,7 +82,7 @@ module _ (program : Listing) (public : Statement) (m : Memory) (states : List Re
           fillers = fillers_are m low accessed (some_reads program public m states low small some answers);
         };
         few_fillers = omega (arith, length-fillers m low accessed (some_reads program public m states low small some answers), answers.width);
-        range_fillers = absent_are (small_values public m states) public.rc_min public.rc_max limits.narrow;
+        range_fillers = absent_are (run_small_values public m states) public.rc_min public.rc_max limits.narrow;
         pairs = ap (in_order pair_cmp) (sym (made_accesses program public m states));
         sorted_range = ap (in_order felt_cmp) (sym (made_values program public m states));
       }

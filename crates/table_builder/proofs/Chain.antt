@@ -4,7 +4,7 @@ use Rattle.casm_word.specs.Transition.{Memory, Registers}
 use Rattle.goldilocks.specs.Felts.{numbers}
 use Rattle.program_file.specs.Listing.{Listing}
 use Rattle.public_input.specs.Statement.{Statement}
-use Rattle.table_builder.specs.Columns.{reads, small_values, tables_of}
+use Rattle.table_builder.specs.Columns.{reads, run_small_values, tables_of}
 use Rattle.table_builder.specs.Findings.{Finding, first_found, end_findings, step_finding, cell_findings, range_findings, limit_findings, width_finding, findings}
 use Rattle.table_builder.specs.Building.{unless_found, building}
 use Rattle.table_builder.proofs.Findings.{first_found-none_append, first_found-cons_none}
@@ -25,7 +25,7 @@ module _ (program : Listing) (public : Statement) (m : Memory) (states : List Re
   d = range_findings public m
 
   abbrev e : List (Option Finding)
-  e = limit_findings public (numbers (small_values public m states))
+  e = limit_findings public (numbers (run_small_values public m states))
 
   abbrev f : List (Option Finding)
   f = width_finding (reads program public m states) ∷ []

@@ -24,11 +24,11 @@ use Rattle.public_input.specs.Valid.{KeepsLimits}
 use Rattle.trace_files.specs.TraceFile.{IsState}
 use Rattle.table_file.specs.Tables.{Contents, AreValid}
 use Rattle.access_lists.specs.Accesses.{range_cells, accesses as accesses_of}
-use Rattle.access_lists.specs.SmallValues.{small_values as small_values_of}
-use Rattle.constraint_checker.specs.Lists.{accessing, accesses, range_values}
+use Rattle.access_lists.specs.SmallValues.{small_values}
+use Rattle.constraint_checker.specs.Lists.{accessing, accesses, table_small_values}
 use Rattle.constraint_checker.specs.Constraints.{states as states_in, first_state, last_state, MeetsAll}
 use Rattle.table_builder.specs.Rows.{first_of, last_of, no_state, rows_of}
-use Rattle.table_builder.specs.Columns.{reads, small_values, free_addresses, cells_at, tables_of}
+use Rattle.table_builder.specs.Columns.{reads, run_small_values, free_addresses, cells_at, tables_of}
 use Rattle.table_builder.proofs.NothingFound.{Answered}
 use Rattle.table_builder.proofs.RowsOfRun.{run_row_count, run_sixteen, run_states, run_meets, last_kept}
 use Rattle.table_builder.proofs.Held.{reads_one_value}
@@ -49,8 +49,8 @@ module _ (program : Listing) (public : Statement) (m : Memory) (states : List Re
   unfolding tables_of reads accesses_of range_cells
   made_accesses = ap (λ xs. xs ++ tables.fillers) (sym (append-nil _))
 
-  pub made_values : range_values tables ≡ small_values public m states ++ map felt (absent_values (small_values public m states) public.rc_min public.rc_max)
-  unfolding tables_of small_values small_values_of
+  pub made_values : table_small_values tables ≡ run_small_values public m states ++ map felt (absent_values (run_small_values public m states) public.rc_min public.rc_max)
+  unfolding tables_of run_small_values small_values
   made_values = ap (λ xs. xs ++ tables.range_fillers) (sym (append-nil _))
 
   module _ (low : (a v : ℕ) → m a ≡ Some v → v < prime) (small : All IsState states) (some : 2 ≤ length states) (answers : Answered program public m states) where
@@ -70,20 +70,20 @@ module _ (program : Listing) (public : Statement) (m : Memory) (states : List Re
     unfolding tables_of
     made_valid is_program limits =
         let accessed = reads program public m states in
-        let absent : List Felt = map felt (absent_values (small_values public m states) public.rc_min public.rc_max) in
+        let absent : List Felt = map felt (absent_values (run_small_values public m states) public.rc_min public.rc_max) in
         let steps = answers.ends.steps in
         let rows : length (rows_of m states) ≡ public.steps = omega (arith, row_count, steps, some) in
         let fillers : length (cells_at m (free_addresses accessed)) ≤ 2 ^ 21 = omega (arith, length-fillers m low accessed some_reads, answers.width) in
         let pairs : length (in_order pair_cmp (accessed ++ cells_at m (free_addresses accessed))) ≡ length (accesses program public tables) =
         length-in_order pair_cmp (accessed ++ cells_at m (free_addresses accessed)) ∙ ap length (sym made_accesses) in
-        let values : length (in_order felt_cmp (small_values public m states ++ absent)) ≡ length (range_values tables) =
-        length-in_order felt_cmp (small_values public m states ++ absent) ∙ ap length (sym made_values) in
+        let values : length (in_order felt_cmp (run_small_values public m states ++ absent)) ≡ length (table_small_values tables) =
+        length-in_order felt_cmp (run_small_values public m states ++ absent) ∙ ap length (sym made_values) in
         record {
           row_count = omega (arith, rows, limits.most_steps);
           range_row_count = omega (arith, length-range_rows_of public m, limits.most_range_cells);
           filler_count = fillers;
           pair_count = omega (arith, pairs, length-accesses (accessing program public tables), rows, length-range_rows_of public m, is_program.few_words, limits.most_steps, limits.most_range_cells, limits.most_cells, fillers);
-          range_filler_count = length-absent (small_values public m states) public.rc_min public.rc_max limits.narrow;
+          range_filler_count = length-absent (run_small_values public m states) public.rc_min public.rc_max limits.narrow;
           sorted_range_count = values ∙ length-small_values (record { rows = tables.rows; range_rows = tables.range; fillers = tables.range_fillers });
         }
 
@@ -108,10 +108,10 @@ module _ (program : Listing) (public : Statement) (m : Memory) (states : List Re
         (memory_filled m low accessed some_reads (reads_one_value program public m states low small legal answers)) in
         (met.0, met.1, subst (λ xs. M3 xs tables.pairs) (sym made_accesses) met.2)
 
-    met_in_range : public.rc_min ≤ public.rc_max → public.rc_max < 2 ^ 16 → Q1 tables.sorted_range public.rc_min × Q2 tables.sorted_range × Q3 tables.sorted_range public.rc_max × Q4 (range_values tables) tables.sorted_range
+    met_in_range : public.rc_min ≤ public.rc_max → public.rc_max < 2 ^ 16 → Q1 tables.sorted_range public.rc_min × Q2 tables.sorted_range × Q3 tables.sorted_range public.rc_max × Q4 (table_small_values tables) tables.sorted_range
     unfolding tables_of
     met_in_range range narrow =
-        let values = small_values public m states in
+        let values = run_small_values public m states in
         let absent : List Felt = map felt (absent_values values public.rc_min public.rc_max) in
         let met = (range_met (values ++ absent) tables.sorted_range public.rc_min public.rc_max).0
         (small_filled values public.rc_min public.rc_max narrow range (small_within values public.rc_min public.rc_max answers.least answers.greatest)) in

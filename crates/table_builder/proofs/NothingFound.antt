@@ -14,7 +14,7 @@ use Rattle.public_input.specs.Statement.{Statement}
 use Rattle.access_lists.specs.Accesses.{program_cells}
 use Rattle.table_builder.specs.declared.faults.Field.TheVariants.{Steps, PcFirst, ApFirst, FpFirst, PcLast, ApLast, Cell, RcMin, RcMax}
 use Rattle.table_builder.specs.Rows.{first_of, last_of, range_address}
-use Rattle.table_builder.specs.Columns.{least_of, greatest_of, reads, small_values, free_addresses}
+use Rattle.table_builder.specs.Columns.{least_of, greatest_of, reads, run_small_values, free_addresses}
 use Rattle.table_builder.specs.Findings.{Finding, Mismatch, Step, RangeWidth, first_found, differs, end_findings, step_finding, cell_finding, cell_findings, range_finding, range_findings, limit_findings, width_finding, findings}
 use Rattle.table_builder.proofs.Findings.{first_found-none, first_found-none_append, first_found-none_cons, first_found-cons_none, map-all_none, first_found-map_none, differs-none, differs-same}
 
@@ -40,8 +40,8 @@ pub record Answered (program : Listing) (public : Statement) (m : Memory) (state
   pub legal : first_refused m states ≡ None
   pub cells : All (Has m) (program_cells program.words ++ public.cells)
   pub range : All (HasRange public m) (range_with_len 0 public.range_count)
-  pub least : public.rc_min ≤ least_of (numbers (small_values public m states))
-  pub greatest : greatest_of (numbers (small_values public m states)) ≤ public.rc_max
+  pub least : public.rc_min ≤ least_of (numbers (run_small_values public m states))
+  pub greatest : greatest_of (numbers (run_small_values public m states)) ≤ public.rc_max
   pub width : length (free_addresses (reads program public m states)) ≤ filler_limit
 
 -- ---- one question after another
@@ -120,7 +120,7 @@ nothing_below a b found le = ap (λ t. if t then Some found else None) (le-ltb a
 pub answered : (program : Listing) (public : Statement) (m : Memory) (states : List Registers) → first_found (findings program public m states) ≡ None → Answered program public m states
 unfolding findings cell_findings range_findings limit_findings width_finding
 answered program public m states none =
-    let small = numbers (small_values public m states) in
+    let small = numbers (run_small_values public m states) in
     let accessed = reads program public m states in
     let ends = end_findings program public states in
     let step = step_finding m states ∷ [] in
@@ -151,7 +151,7 @@ answered program public m states none =
 pub asked : (program : Listing) (public : Statement) (m : Memory) (states : List Registers) → Answered program public m states → first_found (findings program public m states) ≡ None
 unfolding findings cell_findings range_findings limit_findings width_finding
 asked program public m states h =
-    let small = numbers (small_values public m states) in
+    let small = numbers (run_small_values public m states) in
     let accessed = reads program public m states in
     let ends = end_findings program public states in
     let step = step_finding m states ∷ [] in

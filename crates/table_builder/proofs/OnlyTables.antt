@@ -29,11 +29,11 @@ use Rattle.range_columns.specs.Equations.{felt_cmp, IsWithin}
 use Rattle.range_columns.specs.Filling.{absent_values}
 use Rattle.table_file.specs.Tables.{Contents}
 use Rattle.access_lists.specs.Accesses.{row_cells, program_cells, range_cells, accesses as accesses_of}
-use Rattle.access_lists.specs.SmallValues.{row_offsets, limbs, small_values as small_values_of}
-use Rattle.constraint_checker.specs.Lists.{accessing, accesses, range_values}
+use Rattle.access_lists.specs.SmallValues.{row_offsets, limbs, small_values}
+use Rattle.constraint_checker.specs.Lists.{accessing, accesses, table_small_values}
 use Rattle.goldilocks.specs.Cells.{cell, cells_from, addresses}
 use Rattle.table_builder.specs.Rows.{first_of, last_of, no_state, as_state, as_row, rows_of, range_address, limb_row, range_rows_of}
-use Rattle.table_builder.specs.Columns.{least_of, greatest_of, reads_of, values_of, reads, small_values, free_addresses, cells_at, tables_of}
+use Rattle.table_builder.specs.Columns.{least_of, greatest_of, reads_of, row_small_values, reads, run_small_values, free_addresses, cells_at, tables_of}
 use Rattle.table_builder.specs.Building.{unless_found, building}
 use Rattle.table_builder.specs.TablesOf.{HasFieldValues, AreInField, AreTablesOf}
 use Rattle.table_builder.proofs.Kept.{felts_kept, row_kept, state_kept, limbs_kept, cells_kept}
@@ -121,9 +121,9 @@ module _ (program : Listing) (public : Statement) (m : Memory) (states : List Re
   unfolding reads
   accesses_same = ap₂ (reads_of program public) rows_same range_both.0
 
-  values_same : values_of tables.rows tables.range ≡ small_values public m states
-  unfolding small_values
-  values_same = ap₂ values_of rows_same range_both.0
+  values_same : row_small_values tables.rows tables.range ≡ run_small_values public m states
+  unfolding run_small_values
+  values_same = ap₂ row_small_values rows_same range_both.0
 
   abbrev accessed : List Pair
   accessed = reads program public m states
@@ -132,7 +132,7 @@ module _ (program : Listing) (public : Statement) (m : Memory) (states : List Re
   fillers_same = only_fillers m accessed tables.fillers (subst (λ cells. AreFillers m cells tables.fillers) accesses_same are.fillers)
 
   abbrev absent : List Felt
-  absent = map felt (absent_values (small_values public m states) public.rc_min public.rc_max)
+  absent = map felt (absent_values (run_small_values public m states) public.rc_min public.rc_max)
 
   range_fillers_same : tables.range_fillers ≡ absent
   range_fillers_same =
@@ -146,11 +146,11 @@ module _ (program : Listing) (public : Statement) (m : Memory) (states : List Re
       let before : front ≡ accessed = sym (append-nil front) ∙ accesses_same in
       are.pairs ∙ ap (in_order pair_cmp) (ap₂ (λ xs ys. xs ++ ys) before fillers_same)
 
-  sorted_same : tables.sorted_range ≡ in_order felt_cmp (small_values public m states ++ absent)
-  unfolding small_values_of
+  sorted_same : tables.sorted_range ≡ in_order felt_cmp (run_small_values public m states ++ absent)
+  unfolding small_values
   sorted_same =
       let front = flat_map row_offsets tables.rows ++ flat_map limbs tables.range in
-      let before : front ≡ small_values public m states = sym (append-nil front) ∙ values_same in
+      let before : front ≡ run_small_values public m states = sym (append-nil front) ∙ values_same in
       are.sorted_range ∙ ap (in_order felt_cmp) (ap₂ (λ xs ys. xs ++ ys) before range_fillers_same)
 
   tables_same : tables ≡ tables_of program public m states
@@ -172,7 +172,7 @@ module _ (program : Listing) (public : Statement) (m : Memory) (states : List Re
       let at = sym (slice_get-get_or states 0 no_state (omega (arith, are.step_count))) ∙ are.first in
       cc
 
-  some_small : 0 < length (small_values public m states)
+  some_small : 0 < length (run_small_values public m states)
   some_small = omega (arith, ap length values_same, length-small_values (record { rows = tables.rows; range_rows = tables.range; fillers = [] }), are.row_count, are.step_count, are.run.has_step)
 
   some_accessed : 0 < length accessed
@@ -184,7 +184,7 @@ module _ (program : Listing) (public : Statement) (m : Memory) (states : List Re
   all_answered : Answered program public m states
   unfolding Holds
   all_answered =
-      let within = within_least (small_values public m states) public.rc_min public.rc_max some_small
+      let within = within_least (run_small_values public m states) public.rc_min public.rc_max some_small
       (subst (λ values. All (IsWithin public.rc_min public.rc_max) values) values_same are.small_values) in
       record {
         ends = record {

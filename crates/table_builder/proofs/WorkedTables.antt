@@ -15,12 +15,12 @@ use Rattle.program_file.specs.Listing.{Listing}
 use Rattle.public_input.specs.Statement.{Statement}
 use Rattle.table_file.specs.Tables.{Contents}
 use Rattle.access_lists.specs.Accesses.{row_cells, program_cells, range_cells, accesses as accesses_of}
-use Rattle.access_lists.specs.SmallValues.{row_offsets, limbs, small_values as small_values_of}
-use Rattle.constraint_checker.specs.Lists.{accesses, range_values}
+use Rattle.access_lists.specs.SmallValues.{row_offsets, limbs, small_values}
+use Rattle.constraint_checker.specs.Lists.{accesses, table_small_values}
 use Rattle.goldilocks.specs.Cells.{cell, cells_from}
 use Rattle.table_builder.specs.declared.faults.Field.TheVariants.{ApLast, RcMax}
 use Rattle.table_builder.specs.Rows.{row_at, as_row, rows_of, limb_row, range_rows_of}
-use Rattle.table_builder.specs.Columns.{least_of, greatest_of, reads, small_values, free_addresses, cells_at, tables_of}
+use Rattle.table_builder.specs.Columns.{least_of, greatest_of, reads, run_small_values, free_addresses, cells_at, tables_of}
 use Rattle.table_builder.specs.Findings.{Finding, Mismatch, NoCell, first_found, end_findings, step_finding, cell_findings, range_findings, limit_findings, width_finding, findings}
 
 -- `ap += 0`, `call rel 4`, `jmp rel 0`, `[ap] = 25; ap++` and `ret`
@@ -62,26 +62,26 @@ abbrev found : Statement → Option Finding
 found public = first_found (findings program public memory states)
 
 nothing_found : found (public_with 15 32765 32770 0) ≡ None
-unfolding findings end_findings step_finding cell_findings range_findings limit_findings width_finding first_refused outcome reads small_values rows_of row_at as_row row_of tilde_of range_rows_of limb_row limb_at accesses_of row_cells program_cells range_cells cells_from small_values_of row_offsets limbs free_addresses unaccessed gaps_between absent least_of greatest_of decoding flags_of word_of breaks first_broken field_add field_mul field_of_int field_neg
+unfolding findings end_findings step_finding cell_findings range_findings limit_findings width_finding first_refused outcome reads run_small_values rows_of row_at as_row row_of tilde_of range_rows_of limb_row limb_at accesses_of row_cells program_cells range_cells cells_from small_values row_offsets limbs free_addresses unaccessed gaps_between absent least_of greatest_of decoding flags_of word_of breaks first_broken field_add field_mul field_of_int field_neg
 nothing_found = refl
 
 -- the limbs of the range cell are 12, 0 and 0
 range_cell_found : found (public_with 15 0 32769 1) ≡ None
-unfolding findings end_findings step_finding cell_findings range_findings limit_findings width_finding first_refused outcome reads small_values rows_of row_at as_row row_of tilde_of range_rows_of limb_row limb_at accesses_of row_cells program_cells range_cells cells_from small_values_of row_offsets limbs free_addresses unaccessed gaps_between absent least_of greatest_of decoding flags_of word_of breaks first_broken field_add field_mul field_of_int field_neg
+unfolding findings end_findings step_finding cell_findings range_findings limit_findings width_finding first_refused outcome reads run_small_values rows_of row_at as_row row_of tilde_of range_rows_of limb_row limb_at accesses_of row_cells program_cells range_cells cells_from small_values row_offsets limbs free_addresses unaccessed gaps_between absent least_of greatest_of decoding flags_of word_of breaks first_broken field_add field_mul field_of_int field_neg
 range_cell_found = refl
 
 -- cell 15 is missing
 no_range_cell : found (public_with 15 0 32769 6) ≡ Some (NoCell 15)
-unfolding findings end_findings step_finding cell_findings range_findings limit_findings width_finding first_refused outcome reads small_values rows_of row_at as_row row_of tilde_of range_rows_of limb_row limb_at accesses_of row_cells program_cells range_cells cells_from small_values_of row_offsets limbs free_addresses unaccessed gaps_between absent least_of greatest_of decoding flags_of word_of breaks first_broken field_add field_mul field_of_int field_neg
+unfolding findings end_findings step_finding cell_findings range_findings limit_findings width_finding first_refused outcome reads run_small_values rows_of row_at as_row row_of tilde_of range_rows_of limb_row limb_at accesses_of row_cells program_cells range_cells cells_from small_values row_offsets limbs free_addresses unaccessed gaps_between absent least_of greatest_of decoding flags_of word_of breaks first_broken field_add field_mul field_of_int field_neg
 no_range_cell = refl
 
 other_last_ap : found (public_with 16 32765 32770 0) ≡ Some (Mismatch ApLast 16 15)
-unfolding findings end_findings step_finding cell_findings range_findings limit_findings width_finding first_refused outcome reads small_values rows_of row_at as_row row_of tilde_of range_rows_of limb_row limb_at accesses_of row_cells program_cells range_cells cells_from small_values_of row_offsets limbs free_addresses unaccessed gaps_between absent least_of greatest_of decoding flags_of word_of breaks first_broken field_add field_mul field_of_int field_neg
+unfolding findings end_findings step_finding cell_findings range_findings limit_findings width_finding first_refused outcome reads run_small_values rows_of row_at as_row row_of tilde_of range_rows_of limb_row limb_at accesses_of row_cells program_cells range_cells cells_from small_values row_offsets limbs free_addresses unaccessed gaps_between absent least_of greatest_of decoding flags_of word_of breaks first_broken field_add field_mul field_of_int field_neg
 other_last_ap = refl
 
 -- the greatest offset is 32769, with 2^15 added
 narrow_limits : found (public_with 15 32765 32768 0) ≡ Some (Mismatch RcMax 32768 32769)
-unfolding findings end_findings step_finding cell_findings range_findings limit_findings width_finding first_refused outcome reads small_values rows_of row_at as_row row_of tilde_of range_rows_of limb_row limb_at accesses_of row_cells program_cells range_cells cells_from small_values_of row_offsets limbs free_addresses unaccessed gaps_between absent least_of greatest_of decoding flags_of word_of breaks first_broken field_add field_mul field_of_int field_neg
+unfolding findings end_findings step_finding cell_findings range_findings limit_findings width_finding first_refused outcome reads run_small_values rows_of row_at as_row row_of tilde_of range_rows_of limb_row limb_at accesses_of row_cells program_cells range_cells cells_from small_values row_offsets limbs free_addresses unaccessed gaps_between absent least_of greatest_of decoding flags_of word_of breaks first_broken field_add field_mul field_of_int field_neg
 narrow_limits = refl
 
 abbrev tables : Contents
@@ -89,16 +89,16 @@ tables = tables_of program (public_with 15 32765 32770 0) memory states
 
 -- only cell 10 is never accessed
 one_filler : map numbers_of tables.fillers ≡ (10, 12) ∷ []
-unfolding tables_of cells_at filler_at reads small_values rows_of row_at as_row row_of tilde_of range_rows_of limb_row limb_at accesses_of row_cells program_cells range_cells cells_from small_values_of row_offsets limbs free_addresses unaccessed gaps_between absent least_of greatest_of decoding flags_of word_of breaks first_broken field_add field_mul field_of_int field_neg
+unfolding tables_of cells_at filler_at reads run_small_values rows_of row_at as_row row_of tilde_of range_rows_of limb_row limb_at accesses_of row_cells program_cells range_cells cells_from small_values row_offsets limbs free_addresses unaccessed gaps_between absent least_of greatest_of decoding flags_of word_of breaks first_broken field_add field_mul field_of_int field_neg
 one_filler = refl
 
 two_range_fillers : numbers tables.range_fillers ≡ 32765 ∷ 32770 ∷ []
-unfolding tables_of absent_values reads small_values rows_of row_at as_row row_of tilde_of range_rows_of limb_row limb_at accesses_of row_cells program_cells range_cells cells_from small_values_of row_offsets limbs free_addresses unaccessed gaps_between absent least_of greatest_of decoding flags_of word_of breaks first_broken field_add field_mul field_of_int field_neg
+unfolding tables_of absent_values reads run_small_values rows_of row_at as_row row_of tilde_of range_rows_of limb_row limb_at accesses_of row_cells program_cells range_cells cells_from small_values row_offsets limbs free_addresses unaccessed gaps_between absent least_of greatest_of decoding flags_of word_of breaks first_broken field_add field_mul field_of_int field_neg
 two_range_fillers = refl
 
 -- 16 cells of rows, 9 words, 1 public cell and 1 filler
 pair_count : length tables.pairs ≡ 27
-unfolding tables_of cells_at filler_at in_order with_item reads small_values rows_of row_at as_row row_of tilde_of range_rows_of limb_row limb_at accesses_of row_cells program_cells range_cells cells_from small_values_of row_offsets limbs free_addresses unaccessed gaps_between absent least_of greatest_of decoding flags_of word_of breaks first_broken field_add field_mul field_of_int field_neg
+unfolding tables_of cells_at filler_at in_order with_item reads run_small_values rows_of row_at as_row row_of tilde_of range_rows_of limb_row limb_at accesses_of row_cells program_cells range_cells cells_from small_values row_offsets limbs free_addresses unaccessed gaps_between absent least_of greatest_of decoding flags_of word_of breaks first_broken field_add field_mul field_of_int field_neg
 pair_count = refl
 
 -- the last step returns to pc 5 and fp 12, which lie in the cells 13 and 12

@@ -13,7 +13,7 @@ use Rattle.range_columns.specs.declared.RangeRow.{RangeRow}
 use Rattle.range_columns.specs.Equations.{felt_cmp}
 use Rattle.range_columns.specs.Filling.{absent_values}
 use Rattle.access_lists.specs.Accesses.{AccessParts, accesses}
-use Rattle.access_lists.specs.SmallValues.{SmallParts, small_values as small_values_of}
+use Rattle.access_lists.specs.SmallValues.{SmallParts, small_values}
 use Rattle.program_file.specs.Listing.{Listing}
 use Rattle.public_input.specs.Statement.{Statement}
 use Rattle.table_file.specs.Tables.{Contents}
@@ -41,16 +41,16 @@ reads_of program public rows range = accesses (record {
 })
 
 -- Every offset and limb of these rows and range rows. The whitepaper's permutation range-checks.
-abbrev pub values_of : List Row → List RangeRow → List Felt
-values_of rows range = small_values_of (record { rows = rows; range_rows = range; fillers = [] })
+abbrev pub row_small_values : List Row → List RangeRow → List Felt
+row_small_values rows range = small_values (record { rows = rows; range_rows = range; fillers = [] })
 
 -- Every access to the memory but the fillers, in a run. Own.
 unfoldable pub reads : Listing → Statement → Memory → List Registers → List Pair
 reads program public m states = reads_of program public (rows_of m states) (range_rows_of public m)
 
 -- Every offset and limb, in a run. Own.
-unfoldable pub small_values : Statement → Memory → List Registers → List Felt
-small_values public m states = values_of (rows_of m states) (range_rows_of public m)
+unfoldable pub run_small_values : Statement → Memory → List Registers → List Felt
+run_small_values public m states = row_small_values (rows_of m states) (range_rows_of public m)
 
 -- The addresses between the least and the greatest accessed one that are never accessed, ascending. Own.
 unfoldable pub free_addresses : List Pair → List ℕ
@@ -67,7 +67,7 @@ unfoldable pub tables_of : Listing → Statement → Memory → List Registers �
 tables_of program public m states =
     let accessed = reads program public m states in
     let fillers = cells_at m (free_addresses accessed) in
-    let small = small_values public m states in
+    let small = run_small_values public m states in
     let absent = map felt (absent_values small public.rc_min public.rc_max) in
     record {
       rows = rows_of m states;

@@ -18,7 +18,7 @@ use Rattle.table_builder.specs.declared.faults.Field.TheVariants.{Steps, PcFirst
 use Rattle.table_builder.specs.declared.faults.BuildFault.{BuildFault}
 use Rattle.table_builder.specs.declared.faults.BuildFault.TheVariants as fault
 use Rattle.table_builder.specs.Rows.{first_of, last_of, range_address}
-use Rattle.table_builder.specs.Columns.{least_of, greatest_of, reads, small_values, free_addresses}
+use Rattle.table_builder.specs.Columns.{least_of, greatest_of, reads, run_small_values, free_addresses}
 
 -- What is found, in numbers. The names are those of the faults of `build`. Own.
 pub data Finding : Type 0 where
@@ -114,7 +114,7 @@ findings program public m states =
     ++ (step_finding m states ∷ [])
     ++ cell_findings program public m
     ++ range_findings public m
-    ++ limit_findings public (numbers (small_values public m states))
+    ++ limit_findings public (numbers (run_small_values public m states))
     ++ (width_finding (reads program public m states) ∷ [])
 
 -- Something is found at a place of what is asked, and nothing before it: this is what is found first. Own.

@@ -18,9 +18,9 @@ use Rattle.public_input.specs.Statement.{Statement}
 use Rattle.trace_files.specs.TraceFile.{IsState}
 use Rattle.table_file.specs.Tables.{Contents}
 use Rattle.access_lists.specs.Accesses.{program_cells, range_cells}
-use Rattle.constraint_checker.specs.Lists.{accesses, range_values}
+use Rattle.constraint_checker.specs.Lists.{accesses, table_small_values}
 use Rattle.table_builder.specs.Rows.{last_of}
-use Rattle.table_builder.specs.Columns.{reads_of, values_of}
+use Rattle.table_builder.specs.Columns.{reads_of, row_small_values}
 
 -- Each value of the memory is a number of the field. The whitepaper's memory.
 abbrev pub HasFieldValues : Memory → Type 0
@@ -60,13 +60,13 @@ pub record AreTablesOf (program : Listing) (public : Statement) (m : Memory) (st
   -- Each range row has a number below 2^48 and its three limbs.
   pub range : All (λ row. (row.value.number < range_bound) × IsSplitOf row.value.number row) tables.range
   -- Every offset and limb lies from `rc_min` to `rc_max`.
-  pub small_values : All (IsWithin public.rc_min public.rc_max) (values_of tables.rows tables.range)
+  pub small_values : All (IsWithin public.rc_min public.rc_max) (row_small_values tables.rows tables.range)
   -- The fillers are the cells between the accesses, and no more than there may be.
   pub fillers : AreFillers m (reads_of program public tables.rows tables.range) tables.fillers
   pub few_fillers : length tables.fillers ≤ filler_limit
   -- The range fillers are the numbers from `rc_min` to `rc_max` that no offset and no limb has.
-  pub range_fillers : numbers tables.range_fillers ≡ absent_values (values_of tables.rows tables.range) public.rc_min public.rc_max
+  pub range_fillers : numbers tables.range_fillers ≡ absent_values (row_small_values tables.rows tables.range) public.rc_min public.rc_max
   -- The sorted pairs are all accesses, fillers among them, in order.
   pub pairs : tables.pairs ≡ in_order pair_cmp (accesses program public tables)
   -- The sorted range values are all offsets, limbs and range fillers, in order.
-  pub sorted_range : tables.sorted_range ≡ in_order felt_cmp (range_values tables)
+  pub sorted_range : tables.sorted_range ≡ in_order felt_cmp (table_small_values tables)

@@ -7,7 +7,7 @@ ghost use Rattle.goldilocks.specs.Felts.{numbers};
 ghost use Rattle.program_file.specs.Listing.{listing};
 ghost use Rattle.public_input.specs.Statement.{statement};
 ghost use Rattle.public_input.specs.Valid.{IsValid};
-ghost use Rattle.table_builder.specs.Columns.{least_of, greatest_of, reads_of, values_of};
+ghost use Rattle.table_builder.specs.Columns.{least_of, greatest_of, reads_of, row_small_values};
 ghost use Rattle.table_builder.specs.Findings.{Mismatch, finding_of, first_found, limit_findings, width_finding};
 ghost use Rattle.table_builder.specs.Parts.{FindsOrGives, AreSmallColumns, AreMemoryColumns};
 
@@ -31,8 +31,8 @@ pub(crate) fn small_columns(
     range_rows: &[RangeRow],
 ) -> Result<RangeColumns, BuildFault>
     requires valid_public { IsValid public.now }
-    ensures { FindsOrGives (first_found (limit_findings (statement public.now) (numbers (values_of rows.now range_rows.now))))
-        (λ columns. AreSmallColumns (statement public.now) (values_of rows.now range_rows.now) columns.fill.items columns.sorted.items) result }
+    ensures { FindsOrGives (first_found (limit_findings (statement public.now) (numbers (row_small_values rows.now range_rows.now))))
+        (λ columns. AreSmallColumns (statement public.now) (row_small_values rows.now range_rows.now) columns.fill.items columns.sorted.items) result }
 {
     let small = SmallValues {
         rows,

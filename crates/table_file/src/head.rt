@@ -10,6 +10,7 @@ ghost use Rattle.table_file.specs.declared.TableFault.TheVariants.{Magic};
 
 use crate::{TableFault, Tables};
 use file_records::{read_number, write_number};
+use memory_columns::FILLER_LIMIT;
 use std::alloc::AllocError;
 
 /// The text that a tables file begins with.
@@ -21,9 +22,6 @@ const ROW_LIMIT: usize = 1 << 20;
 /// The most range rows of a file.
 const RANGE_ROW_LIMIT: usize = 1 << 18;
 
-/// The most memory fillers of a file.
-const FILLER_LIMIT: usize = 1 << 21;
-
 /// The most sorted pairs of a file.
 const PAIR_LIMIT: usize = 7_077_888;
 
@@ -34,7 +32,7 @@ const RANGE_FILLER_LIMIT: usize = 65_536;
 const LIMITS: [u64; 5] = [
     ROW_LIMIT as u64,
     RANGE_ROW_LIMIT as u64,
-    FILLER_LIMIT as u64,
+    FILLER_LIMIT,
     PAIR_LIMIT as u64,
     RANGE_FILLER_LIMIT as u64,
 ];
@@ -47,7 +45,7 @@ pub(crate) const HEAD: usize = 48;
 const VALUE_LIMIT: usize = 36 * ROW_LIMIT
     + 3
     + 7 * RANGE_ROW_LIMIT
-    + 2 * FILLER_LIMIT
+    + 2 * FILLER_LIMIT as usize
     + 2 * PAIR_LIMIT
     + 2 * RANGE_FILLER_LIMIT;
 

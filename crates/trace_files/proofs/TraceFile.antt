@@ -233,10 +233,9 @@ pub SpellsTrace-written : (states : List Registers) → 2 ≤ length states → 
 SpellsTrace-written states least most fit = record { parts = refl; least = least; most = most; numbers = fit }
 
 -- the records that are written are the states
-pub trace_bytes-written : (states : List State) → flat_map (λ s. numbers_bytes (trace_state_values s)) states ≡ trace_bytes (map registers states)
-unfolding registers
+pub trace_bytes-written : (states : List State) → flat_map (λ s. numbers_bytes (trace_state_values (registers s))) states ≡ trace_bytes (map registers states)
 trace_bytes-written [] = refl
-trace_bytes-written (s ∷ rest) = ap (λ bytes. numbers_bytes (trace_state_values s) ++ bytes) (trace_bytes-written rest)
+trace_bytes-written (s ∷ rest) = ap (λ bytes. numbers_bytes (trace_state_values (registers s)) ++ bytes) (trace_bytes-written rest)
 
 pub SpellsTrace-of_states : (states : List State) (bytes : List ℕ) → bytes ≡ trace_bytes (map registers states) → 2 ≤ length states → length states ≤ state_limit → SpellsTrace bytes (map registers states)
 SpellsTrace-of_states states bytes written least most =

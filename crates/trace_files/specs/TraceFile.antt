@@ -3,6 +3,7 @@ use Rattle.std.specs.Prelude.{◌≡◌, ◌≢◌, ◌⊎◌, ℕ, ◌+◌, ◌
 use Rattle.std.specs.List.{flat_map, range_with_len, AllByRecursion}
 use Rattle.goldilocks.specs.Field.{prime}
 use Rattle.file_records.specs.Numbers.{numbers_bytes, number_at, IsFirstNotField, first_not_field}
+use Rattle.file_records.specs.Records.{trace_state_values}
 use Rattle.casm_word.specs.Transition.{Registers}
 use Rattle.trace_files.specs.declared.fault.FileFault.{FileFault}
 use Rattle.trace_files.specs.declared.fault.FileFault.TheVariants.{TooMany, Length, NotField, Order, Memory}
@@ -17,7 +18,7 @@ trace_limit = 24 * state_limit
 
 -- A state as it stands in a trace file: ap, fp, pc. Own.
 abbrev pub state_bytes : Registers → List ℕ
-state_bytes s = numbers_bytes (s.ap ∷ s.fp ∷ s.pc ∷ [])
+state_bytes s = numbers_bytes (trace_state_values s)
 
 -- The registers hold numbers of the field. Own.
 pub record IsState (s : Registers) : Type 0 where

@@ -6,7 +6,7 @@ use Rattle.sorted_lists.specs.Order.{in_order}
 use Rattle.range_columns.specs.Equations.{felt_cmp}
 use Rattle.range_columns.specs.Filling.{absent_values}
 use Rattle.public_input.specs.Statement.{statement}
-use Rattle.table_builder.specs.Columns.{values_of}
+use Rattle.table_builder.specs.Columns.{row_small_values}
 use Rattle.table_builder.specs.Findings.{first_found, limit_findings}
 use Rattle.table_builder.proofs.Filled.{small_within}
 use Rattle.table_builder.proofs.Limits.{limits_hold}
@@ -23,7 +23,7 @@ sort_range-requires-clause-within c =
 pub returns : goal.returns
 returns c =
     let public = statement c.args.public.now in
-    let values : List Felt = values_of c.args.rows.now c.args.range_rows.now in
+    let values : List Felt = row_small_values c.args.rows.now c.args.range_rows.now in
     let is : c.in_ok-values.values.items ≡ values = c.in_ok-values.ensures in
     let made = c.in_ok-sort_range.field-0 in (
       subst (λ vs. first_found (limit_findings public (numbers vs)) ≡ None) is (rw c.deref.ensures.value at c.in_ok-within_limits.ensures.0),
