@@ -6,7 +6,9 @@ ghost use Rattle.goldilocks.specs.declared.Felt.{Felt};
 ghost use Rattle.goldilocks.specs.Felts.{numbers};
 ghost use Rattle.casm_word.specs.Transition.{registers};
 ghost use Rattle.file_records.specs.Numbers.{number_bytes, numbers_bytes};
-ghost use Rattle.file_records.specs.Records.{row_values, state_values, trace_state_values, range_row_values, pair_values, records_in, values_of_bytes, value_of_bytes, row_of_bytes, state_of_bytes, trace_state_of_bytes, range_row_of_bytes, pair_of_bytes};
+ghost use Rattle.file_records.specs.Records.{row_values, state_values, trace_state_values, range_row_values, pair_values};
+ghost use Rattle.file_records.specs.Records.{records_in, values_of_bytes, value_of_bytes, row_of_bytes, state_of_bytes};
+ghost use Rattle.file_records.specs.Records.{trace_state_of_bytes, range_row_of_bytes, pair_of_bytes};
 
 use crate::numbers::{number_of, write_number};
 use casm_word::State;
