@@ -1,6 +1,6 @@
 //! Laws of the definitions: functions that do nothing, and whose contracts say what always holds.
 
-ghost use Rattle.std.specs.Prelude.{◌≡◌, ◌≢◌, ◌≤◌, ℕ, List, [], length, map, String};
+ghost use Rattle.std.specs.Prelude.{◌≡◌, ◌≢◌, ◌≤◌, ℕ, false, List, [], length, map, String};
 ghost use Rattle.std.specs.declared.alloc.Global.{Global};
 ghost use Rattle.std.specs.List.{Contains};
 ghost use Rattle.file_port.specs.Files.{Name, Files};
@@ -27,11 +27,13 @@ pub fn reply_laws()
         map (λ write. write.0) (reply words files).writes ≡ outputs_of (task_of words) }
 {}
 
-/// Bytes that spell states or cells are within the limit of their format. So where files are said to hold such bytes,
-/// no more is asked of them.
+/// Bytes that spell states or cells are within the limit of their format, and bytes within it are never too many
+/// entries. So where files are said to hold such bytes, no more is asked of them.
 pub fn limit_laws()
     ensures trace { (bytes : List ℕ) (states : List Registers) → SpellsTrace bytes states → length bytes ≤ trace_format.limit }
     ensures memory { (bytes : List ℕ) (cells : List Pair) → SpellsMemory bytes cells → length bytes ≤ memory_format.limit }
+    // A file within that limit has no more entries than it may have.
+    ensures entries { (trace_format.may_have_too_many ≡ false) × (memory_format.may_have_too_many ≡ false) }
 {}
 
 /// What words ask for that keep a form reads the inputs of the form, and writes its outputs.

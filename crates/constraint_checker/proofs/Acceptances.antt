@@ -11,9 +11,8 @@ use Rattle.public_input.specs.Statement.{Statement}
 use Rattle.table_file.specs.Tables.{Contents}
 use Rattle.constraint_checker.specs.declared.Verdict.TheVariants.{Accepted}
 use Rattle.constraint_checker.specs.Lists.{accesses, table_small_values}
-use Rattle.constraint_checker.specs.Constraints.{MeetsAll, rows_with_next, start_conditions, row_conditions, end_conditions, limb_conditions}
+use Rattle.constraint_checker.specs.Constraints.{MeetsAll, rows_with_next, start_conditions, row_conditions, end_conditions, limb_conditions, run_conditions}
 use Rattle.constraint_checker.specs.Verdict.{verdict_on, verdict}
-use Rattle.constraint_checker.specs.Parts.{run_conditions}
 use Rattle.constraint_checker.proofs.Verdicts.{first_refused, both_accepted, accepted-append}
 use Rattle.constraint_checker.proofs.Groups.{rows_accepted, limbs_accepted, of_list_fault, memory_by_fault, of_range_fault, small_by_fault, on_memory, on_small_values, by_groups}
 use Rattle.constraint_checker.proofs.Edges.{start-met, start_accepted, end-met, end_accepted}

@@ -28,9 +28,8 @@ use Rattle.constraint_checker.specs.declared.Constraint.TheVariants.{C, V, M, Q}
 use Rattle.constraint_checker.specs.declared.Verdict.{Verdict}
 use Rattle.constraint_checker.specs.declared.Verdict.TheVariants.{Accepted, Refused}
 use Rattle.constraint_checker.specs.Lists.{accesses, table_small_values}
-use Rattle.constraint_checker.specs.Constraints.{Condition, condition, are_one, at_each, neighbours, start_conditions, row_conditions, end_conditions, limb_conditions, memory_conditions, small_conditions, conditions, rows_with_next}
+use Rattle.constraint_checker.specs.Constraints.{Condition, condition, are_one, at_each, neighbours, start_conditions, row_conditions, end_conditions, limb_conditions, run_conditions, memory_conditions, small_conditions, conditions, rows_with_next}
 use Rattle.constraint_checker.specs.Verdict.{verdict_on, verdict}
-use Rattle.constraint_checker.specs.Parts.{run_conditions}
 use Rattle.constraint_checker.proofs.Verdicts.{first_refused, verdict_on-append, fails_here, holds_here, stays, second_stays, first_stays}
 use Rattle.constraint_checker.proofs.EachItem.{none_refused, each_accepted, refused_at, of_number, of_number-accepted, of_equations, verdict_on-equations, of_place, verdict_on-neighbours}
 

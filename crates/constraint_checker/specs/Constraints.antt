@@ -112,14 +112,20 @@ small_conditions values sorted least greatest =
     ∷ are_one (Q 4) (range_difference values sorted)
     ∷ [])
 
--- All written constraints in their order. The whitepaper's constraints of the Cairo machine, of its memory and of its
--- range checks; C32 to C39, V1, M3 and Q4 are own.
-unfoldable pub conditions : Listing → Statement → Contents → List Condition
-conditions program public tables =
+-- P1 to P7, C1 to C39 and V1, which speak of single rows. The whitepaper's constraints of the Cairo machine; C32 to C39
+-- and V1 are own.
+unfoldable pub run_conditions : Listing → Statement → Contents → List Condition
+run_conditions program public tables =
     start_conditions program public tables
     ++ row_conditions 0 (rows_with_next tables)
     ++ end_conditions program public tables
     ++ limb_conditions 0 tables.range
+
+-- All written constraints in their order. The whitepaper's constraints of the Cairo machine, of its memory and of its
+-- range checks; C32 to C39, V1, M3 and Q4 are own.
+unfoldable pub conditions : Listing → Statement → Contents → List Condition
+conditions program public tables =
+    run_conditions program public tables
     ++ memory_conditions (accesses program public tables) tables.pairs
     ++ small_conditions (table_small_values tables) tables.sorted_range public.rc_min public.rc_max
 

@@ -3,23 +3,29 @@
 use Rattle.std.specs.Prelude.{List}
 use Rattle.goldilocks.specs.declared.Felt.{Felt}
 use Rattle.goldilocks.specs.declared.Pair.{Pair}
+use Rattle.cpu_rows.specs.declared.Row.{Row}
+use Rattle.range_columns.specs.declared.RangeRow.{RangeRow}
 use Rattle.access_lists.specs.Accesses.{AccessParts, accesses as accesses_of}
 use Rattle.access_lists.specs.SmallValues.{SmallParts, small_values}
 use Rattle.program_file.specs.Listing.{Listing}
 use Rattle.public_input.specs.Statement.{Statement}
 use Rattle.table_file.specs.Tables.{Contents}
 
--- What accesses the memory: the rows and range rows of the tables, the program, the public cells, and the fillers. The
+-- What accesses the memory: these rows, range rows and fillers, with the program's words and the public cells. The
 -- whitepaper's memory accesses, with its public memory.
-abbrev pub accessing : Listing → Statement → Contents → AccessParts
-accessing program public tables = record {
-  rows = tables.rows;
+abbrev pub accessing_with : Listing → Statement → List Row → List RangeRow → List Pair → AccessParts
+accessing_with program public rows range fillers = record {
+  rows = rows;
   range_begin = public.range_begin.number;
-  range_rows = tables.range;
+  range_rows = range;
   words = program.words;
   public_cells = public.cells;
-  fillers = tables.fillers;
+  fillers = fillers;
 }
+
+-- What accesses the memory, where these are the tables. The whitepaper's memory accesses, with its public memory.
+abbrev pub accessing : Listing → Statement → Contents → AccessParts
+accessing program public tables = accessing_with program public tables.rows tables.range tables.fillers
 
 -- Every access to the memory: the cells of each row, the range cells, the program's words, the public cells, and the
 -- fillers. The whitepaper's memory accesses, with its public memory.

@@ -1,6 +1,6 @@
 //! The verdict on tables.
 
-ghost use Rattle.std.specs.Prelude.{◌≡◌, ◌<◌, ◌↔◌, length, IfOk};
+ghost use Rattle.std.specs.Prelude.{◌≡◌, ◌<◌, ◌↔◌, length, IfOk, IfErr};
 ghost use Rattle.casm_word.specs.Transition.{registers};
 ghost use Rattle.program_file.specs.Listing.{listing};
 ghost use Rattle.public_input.specs.Statement.{statement};
@@ -9,10 +9,10 @@ ghost use Rattle.table_file.specs.Tables.{contents, AreValid};
 ghost use Rattle.access_lists.specs.Accesses.{access_parts};
 ghost use Rattle.constraint_checker.specs.Lists.{accessing, accesses, table_small_values};
 ghost use Rattle.constraint_checker.specs.Constraints.{first_state, rows_with_next, start_conditions, row_conditions, end_conditions};
-ghost use Rattle.constraint_checker.specs.Constraints.{limb_conditions, memory_conditions, small_conditions, MeetsAll};
+ghost use Rattle.constraint_checker.specs.Constraints.{limb_conditions, run_conditions, memory_conditions, small_conditions, MeetsAll};
 ghost use Rattle.constraint_checker.specs.Verdict.{verdict_on, verdict};
 ghost use Rattle.constraint_checker.specs.Acceptance.{DescribeRun};
-ghost use Rattle.constraint_checker.specs.Parts.{run_conditions, RunsAnywhere};
+ghost use Rattle.constraint_checker.specs.Parts.{RunsAnywhere};
 
 use crate::{Constraint, Verdict};
 use access_lists::{Accesses, SmallValues};
@@ -44,6 +44,9 @@ pub fn check(
 
     // Accepted tables describe a run.
     ensures describes { IfOk result (λ v. v ≡ Verdict.Accepted → DescribeRun (listing program.now) (statement public.now) (contents tables.now)) }
+
+    // Want of memory comes only where P1 to P7, C1 to C39 and V1 hold.
+    ensures memory { IfErr result (λ _. verdict_on (run_conditions (listing program.now) (statement public.now) (contents tables.now)) ≡ Verdict.Accepted) }
 {
     let run = verdict_on_run(program, public, tables);
     if !run.is_accepted() {

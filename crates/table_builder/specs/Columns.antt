@@ -12,8 +12,9 @@ use Rattle.memory_columns.specs.Filling.{unaccessed, filler_at}
 use Rattle.range_columns.specs.declared.RangeRow.{RangeRow}
 use Rattle.range_columns.specs.Equations.{felt_cmp}
 use Rattle.range_columns.specs.Filling.{absent_values}
-use Rattle.access_lists.specs.Accesses.{AccessParts, accesses}
+use Rattle.access_lists.specs.Accesses.{accesses}
 use Rattle.access_lists.specs.SmallValues.{SmallParts, small_values}
+use Rattle.constraint_checker.specs.Lists.{accessing_with}
 use Rattle.program_file.specs.Listing.{Listing}
 use Rattle.public_input.specs.Statement.{Statement}
 use Rattle.table_file.specs.Tables.{Contents}
@@ -31,14 +32,7 @@ greatest_of numbers = unwrap_or (reduce max numbers) 0
 -- Every access to the memory but the fillers, where these are the rows and the range rows. The whitepaper's memory
 -- accesses, with its public memory.
 abbrev pub reads_of : Listing → Statement → List Row → List RangeRow → List Pair
-reads_of program public rows range = accesses (record {
-  rows = rows;
-  range_begin = public.range_begin.number;
-  range_rows = range;
-  words = program.words;
-  public_cells = public.cells;
-  fillers = [];
-})
+reads_of program public rows range = accesses (accessing_with program public rows range [])
 
 -- Every offset and limb of these rows and range rows. The whitepaper's permutation range-checks.
 abbrev pub row_small_values : List Row → List RangeRow → List Felt

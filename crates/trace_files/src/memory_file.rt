@@ -9,12 +9,12 @@ ghost use Rattle.trace_files.specs.CellList.{listed};
 use crate::cell_list::MEMORY_CELL_LIMIT;
 use crate::file_numbers::check_number;
 use crate::{CellList, FileFault};
-use file_records::{read_number, read_records, write_records};
+use file_records::{Record, read_number, read_records, write_records};
 use goldilocks::Pair;
 use std::alloc::{AllocError, Global};
 
 /// The bytes of a cell.
-const CELL: usize = 16;
+const CELL: usize = Pair::SIZE;
 
 /// The most bytes that a memory file may have.
 pub const MEMORY_LIMIT: usize = CELL * MEMORY_CELL_LIMIT;

@@ -8,14 +8,14 @@ ghost use Rattle.trace_files.specs.TraceFile.{SpellsTrace, IsTraceFault, states_
 use crate::FileFault;
 use crate::file_numbers::check_number;
 use casm_word::State;
-use file_records::{TraceState, read_records, write_records};
+use file_records::{Record, TraceState, read_records, write_records};
 use std::alloc::{AllocError, Global};
 
 /// The most states that a trace file may have: those of 2^20 steps.
 pub const STATE_LIMIT: usize = (1 << 20) + 1;
 
 /// The bytes of a state.
-const STATE: usize = 24;
+const STATE: usize = TraceState::SIZE;
 
 /// The most bytes that a trace file may have.
 pub const TRACE_LIMIT: usize = STATE * STATE_LIMIT;

@@ -28,7 +28,7 @@ enum Fault {
     Write,
     /// Permissions can't be set.
     Permissions,
-    /// The disk is full, and says so when it is flushed.
+    /// The disk is full, and says so when bytes that were written are flushed.
     Flush,
     /// A file can't be renamed.
     Rename,
@@ -117,8 +117,11 @@ impl OpenFile for FailingFile {
         self.file.set_len(size)
     }
 
+    /// A file without bytes has nothing to flush that could fail.
     fn sync_all(&self) -> io::Result<()> {
-        unless(self.faults, Fault::Flush, ErrorKind::StorageFull)?;
+        if self.file.metadata()?.len() > 0 {
+            unless(self.faults, Fault::Flush, ErrorKind::StorageFull)?;
+        }
         self.file.sync_all()
     }
 
