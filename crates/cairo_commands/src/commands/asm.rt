@@ -13,10 +13,9 @@ use command_words::{Command, Form};
 use file_port::Store;
 use std::alloc::{AllocError, Global};
 
-/// The position of the text among the words.
+// The positions of the inputs among the words.
 const TEXT: usize = 1;
 
-/// The position of the program file among the words.
 const PROGRAM: usize = 2;
 
 /// The names of the files of a call.

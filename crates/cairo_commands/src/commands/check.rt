@@ -15,13 +15,11 @@ use constraint_checker::{Constraint, Verdict};
 use file_port::Store;
 use std::alloc::{AllocError, Global};
 
-/// The position of the program among the words.
+// The positions of the inputs among the words.
 const PROGRAM: usize = 1;
 
-/// The position of the public input among the words.
 const PUBLIC: usize = 2;
 
-/// The position of the tables among the words.
 const TABLES: usize = 3;
 
 /// The names of the files of a call.

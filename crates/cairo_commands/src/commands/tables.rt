@@ -20,19 +20,15 @@ use std::alloc::{AllocError, Global};
 use table_builder::BuildFault;
 use table_file::Tables;
 
-/// The position of the program among the words.
+// The positions of the inputs among the words.
 const PROGRAM: usize = 1;
 
-/// The position of the public input among the words.
 const PUBLIC: usize = 2;
 
-/// The position of the trace file among the words.
 const TRACE: usize = 3;
 
-/// The position of the memory file among the words.
 const MEMORY: usize = 4;
 
-/// The position of the tables among the words.
 const TABLES: usize = 5;
 
 /// The names of the files of a call.

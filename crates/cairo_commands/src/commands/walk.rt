@@ -15,10 +15,9 @@ use command_words::{Command, Form};
 use file_port::Store;
 use std::alloc::{AllocError, Global};
 
-/// The position of the trace file among the words.
+// The positions of the inputs among the words.
 const TRACE: usize = 1;
 
-/// The position of the memory file among the words.
 const MEMORY: usize = 2;
 
 /// The names of the files of a call.
