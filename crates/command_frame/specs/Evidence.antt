@@ -80,8 +80,8 @@ pub record Evidence (inputs : List Input) (outputs : List Name) (before after : 
   pub none_missing_at_fault : status ≡ Store → after.absent ≡ before.absent
   -- what spells nothing is an input
   pub input_line : status ≡ Unspelled → OneOf (λ input most. TellsUnspelled (Appends sink_before.written sink_after.written) input.position) 0 inputs
-  -- an input is over its own limit only where more was given, or it may have too many entries; no more is read than it
-  -- and those before it allow
+  -- an input is over its own limit only where the call was given more bytes than that, those of the inputs before it
+  -- among them, or it may have too many entries; no more is read than it and those before it allow
   pub limit : status ≡ Limit → OneOf (λ input most.
       PassesLimit input before.given after.given
       × (after.given ≤ before.given + most)

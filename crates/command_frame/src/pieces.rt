@@ -28,8 +28,9 @@ pub struct Input<'w> {
 
 /// What takes the bytes of a file, piece by piece.
 ///
-/// A taker that finds a fault keeps it and goes on to take, since a fault of the store and the limit of the file stand
-/// before it.
+/// The impl says by `took` what it knows of the bytes that it has taken, and [`read_pieces`] promises that of the whole
+/// file. A taker that finds a fault has to keep it and go on to take, since a fault of the store and the limit of the
+/// file stand before it.
 pub trait Taker: Drop {
     // The taker has taken these bytes so far.
     ghost took: { List ℕ → Self → Type 0 };

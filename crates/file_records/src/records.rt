@@ -17,7 +17,8 @@ use goldilocks::{Felt, Pair};
 use range_columns::RangeRow;
 use std::alloc::{AllocError, Global};
 
-/// How a value stands in a file: each takes the same number of bytes.
+/// How a value stands in a file. Reading takes [`SIZE`](Record::SIZE) bytes, and the impl says what is read and written.
+/// That a list that is written is read back is proved for each file, in its crate.
 pub trait Record {
     /// What a record holds.
     type Value: Copy;

@@ -13,7 +13,7 @@ use command_words::{Command, Form};
 use file_port::Store;
 use std::alloc::{AllocError, Global};
 
-// The positions of the inputs among the words.
+// The positions of the names among the words.
 const TEXT: usize = 1;
 
 const PROGRAM: usize = 2;

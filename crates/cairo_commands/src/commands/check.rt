@@ -15,7 +15,7 @@ use constraint_checker::{Constraint, Verdict};
 use file_port::Store;
 use std::alloc::{AllocError, Global};
 
-// The positions of the inputs among the words.
+// The positions of the names among the words.
 const PROGRAM: usize = 1;
 
 const PUBLIC: usize = 2;

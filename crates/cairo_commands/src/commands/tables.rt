@@ -20,7 +20,7 @@ use std::alloc::{AllocError, Global};
 use table_builder::BuildFault;
 use table_file::Tables;
 
-// The positions of the inputs among the words.
+// The positions of the names among the words.
 const PROGRAM: usize = 1;
 
 const PUBLIC: usize = 2;

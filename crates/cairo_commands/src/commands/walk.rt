@@ -15,7 +15,7 @@ use command_words::{Command, Form};
 use file_port::Store;
 use std::alloc::{AllocError, Global};
 
-// The positions of the inputs among the words.
+// The positions of the names among the words.
 const TRACE: usize = 1;
 
 const MEMORY: usize = 2;
