@@ -1,5 +1,5 @@
 -- The first step that is refused, found from the front.
-use Rattle.std.proofs.Common.{◌≡◌, ℕ, suc, ◌+◌, ◌-◌, ◌<◌, ◌≤◌, true, false, cond, List, ◌∷◌, length, drop, get_or, map, Some, None, refl, sym, ap, ◌∙◌, arith, add-one, drop-cons}
+use Rattle.std.proofs.Common.{◌≡◌, ℕ, suc, ◌+◌, ◌<◌, ◌≤◌, true, false, cond, List, ◌∷◌, length, drop, get_or, map, Some, None, refl, sym, ap, ◌∙◌, arith, add-one, drop-cons}
 use Rattle.std.proofs.Math.ListN.{get_or-map, drop_of_length-le}
 use Rattle.std.proofs.lemmas.List.{length-map, get_or_read}
 use Rattle.casm_word.specs.declared.State.{State}
@@ -37,23 +37,20 @@ first_refused-end m states i past so_far =
     sym so_far ∙ ap (refused_from m i) (drop_of_length-le (steps (map registers states)) (omega (arith, length-steps (map registers states))))
 
 -- the same of the two states that the code read, and of what the step between them came to
-module _ (m : Memory) (states : List State) (i : ℕ) (before at : State) (found : Outcome) (positive : 1 ≤ i) (within : i < length states) (before_is : before ≡ get_or states (i - 1) before) (at_is : at ≡ get_or states i at) (found_is : found ≡ outcome m (registers before)) (so_far : refused_from m (i - 1) (drop (i - 1) (steps (map registers states))) ≡ refused_from m 0 (steps (map registers states))) where
-  place : i - 1 + 1 ≡ i
-  place = omega arith
+module _ (m : Memory) (states : List State) (i : ℕ) (before at : State) (found : Outcome) (within : i + 1 < length states) (before_is : before ≡ get_or states i before) (at_is : at ≡ get_or states (i + 1) at) (found_is : found ≡ outcome m (registers before)) (so_far : refused_from m i (drop i (steps (map registers states))) ≡ refused_from m 0 (steps (map registers states))) where
+  read_to : get_or states (i + 1) before ≡ at
+  read_to = sym (get_or_read states (i + 1) at within at_is before)
 
-  read_to : get_or states (i - 1 + 1) before ≡ at
-  read_to = ap (λ k. get_or states k before) place ∙ sym (get_or_read states i at within at_is before)
-
-  read_step : is_next (outcome m (registers (get_or states (i - 1) before))) (registers (get_or states (i - 1 + 1) before)) ≡ is_next found (registers at)
+  read_step : is_next (outcome m (registers (get_or states i before))) (registers (get_or states (i + 1) before)) ≡ is_next found (registers at)
   read_step =
-      ap (λ s. is_next (outcome m (registers s)) (registers (get_or states (i - 1 + 1) before))) (sym before_is)
+      ap (λ s. is_next (outcome m (registers s)) (registers (get_or states (i + 1) before))) (sym before_is)
       ∙ ap (λ s. is_next (outcome m (registers before)) (registers s)) read_to
       ∙ ap (λ o. is_next o (registers at)) (sym found_is)
 
-  pub refused_here : is_next found (registers at) ≡ false → Some (i - 1, found) ≡ first_refused m (map registers states)
+  pub refused_here : is_next found (registers at) ≡ false → Some (i, found) ≡ first_refused m (map registers states)
   refused_here other =
-      ap (λ o. Some (i - 1, o)) (found_is ∙ ap (λ s. outcome m (registers s)) before_is)
-      ∙ sym (first_refused-here m states (i - 1) before (omega arith) so_far (read_step ∙ other))
+      ap (λ o. Some (i, o)) (found_is ∙ ap (λ s. outcome m (registers s)) before_is)
+      ∙ sym (first_refused-here m states i before within so_far (read_step ∙ other))
 
-  pub refused_later : is_next found (registers at) ≡ true → refused_from m i (drop i (steps (map registers states))) ≡ refused_from m 0 (steps (map registers states))
-  refused_later same = rw place at (first_refused-on m states (i - 1) before (omega arith) so_far (read_step ∙ same))
+  pub refused_later : is_next found (registers at) ≡ true → refused_from m (i + 1) (drop (i + 1) (steps (map registers states))) ≡ refused_from m 0 (steps (map registers states))
+  refused_later same = first_refused-on m states i before within so_far (read_step ∙ same)

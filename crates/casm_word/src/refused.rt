@@ -15,10 +15,10 @@ pub fn first_refused<M: Reads>(memory: &M, states: &[State]) -> Option<(usize, S
     ensures { option_map (λ refused. (refused.0, outcome_of refused.1)) result
         ≡ first_refused (M.cells memory.now) (map registers states.now) }
 {
-    for i in 1..states.len() {
-        let found = step(memory, states[i - 1]);
-        if !found.is_next(states[i]) {
-            return Some((i - 1, found));
+    for (i, pair) in states.windows(2).enumerate() {
+        let found = step(memory, pair[0]);
+        if !found.is_next(pair[1]) {
+            return Some((i, found));
         }
     }
     None

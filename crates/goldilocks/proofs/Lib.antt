@@ -11,3 +11,4 @@ pub mod Worked
 pub mod Pairs
 pub mod Cells
 pub mod Generators
+pub mod Windows
