@@ -39,9 +39,8 @@ pub fn memory_fault(
 fn neighbours_fault(sorted: &[Pair]) -> Option<ListFault>
     ensures { result ≡ option_map (λ p. fault_at p.1 p.0) (first_between pair_fault sorted.now) }
 {
-    for next in 1..sorted.len() {
-        let row = next - 1;
-        if let Some(number) = pair_fault(sorted[row], sorted[next]) {
+    for (row, pair) in sorted.windows(2).enumerate() {
+        if let Some(number) = pair_fault(pair[0], pair[1]) {
             return Some(ListFault {
                 number,
                 row: row as u64,

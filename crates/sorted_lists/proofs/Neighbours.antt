@@ -128,24 +128,23 @@ module _ {X Y : Type 0} (found : X → X → Option Y) where
   pub some_between : (xs : List X) (i : ℕ) (z : Y) → first_between found xs ≡ Some (i, z) → FirstFound (Some (i, z)) xs
   some_between xs i z e = rw e at (found_between xs)
 
--- a loop over the later of two neighbours, in numbers: `row` is the place before `next`
-module _ {X Y : Type 0} (found : X → X → Option Y) (xs : List X) (row next : ℕ) (step : row + 1 ≡ next) (before : AllAdjacentBelow (Nothing found) xs next) where
-  between_at : (x y : X) → next < length xs → x ≡ get_or xs row x → y ≡ get_or xs next y → (d : X) → found (get_or xs row d) (get_or xs (row + 1) d) ≡ found x y
-  between_at x y lt p q d =
-      let a : x ≡ get_or xs row d = get_or_read xs row x (omega arith) p d in
-      let b : y ≡ get_or xs next d = get_or_read xs next y lt q d in
+-- a loop over neighbours, at the two that stand at a place and behind it
+module _ {X Y : Type 0} (found : X → X → Option Y) (xs : List X) (row : ℕ) (before : AllAdjacentBelow (Nothing found) xs (row + 1)) (x y : X) (within : row + 1 < length xs) (x_is : x ≡ get_or xs row x) (y_is : y ≡ get_or xs (row + 1) y) where
+  between_at : (d : X) → found (get_or xs row d) (get_or xs (row + 1) d) ≡ found x y
+  between_at d =
+      let a : x ≡ get_or xs row d = get_or_read xs row x (omega arith) x_is d in
+      let b : y ≡ get_or xs (row + 1) d = get_or_read xs (row + 1) y within y_is d in
       cc
 
-  pub nothing_so_far : (x y : X) → next < length xs → x ≡ get_or xs row x → y ≡ get_or xs next y → found x y ≡ None → AllAdjacentBelow (Nothing found) xs (next + 1)
-  nothing_so_far x y lt p q none k d less =
-      elim (cases_lt (k + 1) next) [
+  pub nothing_so_far : found x y ≡ None → AllAdjacentBelow (Nothing found) xs (row + 1 + 1)
+  nothing_so_far none k d less =
+      elim (cases_lt (k + 1) (row + 1)) [
         | inl earlier ↦ before k d earlier
         | inr later ↦
             let e : k ≡ row = omega arith in
-            let here : found (get_or xs row d) (get_or xs (row + 1) d) ≡ found x y = between_at x y lt p q d in
+            let here : found (get_or xs row d) (get_or xs (row + 1) d) ≡ found x y = between_at d in
             rw e (here ∙ none)
       ]
 
-  pub something_here : (x y : X) (z : Y) → next < length xs → x ≡ get_or xs row x → y ≡ get_or xs next y → found x y ≡ Some z → first_between found xs ≡ Some (row, z)
-  something_here x y z lt p q some =
-      first_between-some found xs row z (omega arith) (rw step before) (λ d. between_at x y lt p q d ∙ some)
+  pub something_here : (z : Y) → found x y ≡ Some z → first_between found xs ≡ Some (row, z)
+  something_here z some = first_between-some found xs row z within before (λ d. between_at d ∙ some)

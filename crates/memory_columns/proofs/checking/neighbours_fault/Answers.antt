@@ -1,19 +1,28 @@
-use Rattle.std.proofs.Common.{◌-◌, ap, sym, ◌∙◌, arith}
+use Rattle.std.proofs.Common.{Some, length, ap, sym, ◌∙◌, rules, arith}
 use Rattle.std.specs.Option.{option_map}
-use Rattle.memory_columns.specs.Equations.{pair_fault, fault_at}
+use Rattle.std.proofs.lemmas.List.{length_push}
+use Rattle.goldilocks.proofs.Windows.{numbered_turn, numbered_end}
 use Rattle.sorted_lists.proofs.Neighbours.{first_between-none, nothing_so_far, something_here}
+use Rattle.memory_columns.specs.Equations.{pair_fault, fault_at}
 use Rattle.memory_columns.proofs.checking.neighbours_fault.Goals as goal
 
-pub returns-in-Some : goal.returns-in-Some
-returns-in-Some c =
-    ap (option_map (λ p. fault_at p.1 p.0)) (sym (something_here pair_fault c.args.sorted.now (c.loop-next.next - 1) c.loop-next.next (omega arith) c.loop-next.invariant
-    c.index-sorted-row.result c.index-sorted-next.result c.in-Some.number c.loop-next-test.true c.index-sorted-row.is c.index-sorted-next.is (sym c.pair_fault.ensures ∙ c.in-Some.is)))
+pub returns-in-Some-pair_fault : goal.returns-in-Some-pair_fault
+returns-in-Some-pair_fault c =
+    let turn = numbered_turn c.args.sorted.now c.into_iter-row-iterator.result (search rules) (search rules) (search rules) c.loop-row.yielded _ c.loop-row.yielded_by _ _ (c.in-Some.row, c.in-Some.pair) c.in-Some.is c.next.ensures.steps in
+    ap (λ row. Some (fault_at c.in-Some-pair_fault.number row)) turn.0
+    ∙ ap (option_map (λ p. fault_at p.1 p.0)) (sym (something_here pair_fault c.args.sorted.now (length c.loop-row.yielded) c.loop-row.invariant
+    c.index-pair-0.result c.index-pair-1.result turn.1.within (c.index-pair-0.is ∙ turn.1.first _) (c.index-pair-1.is ∙ turn.1.second _)
+    c.in-Some-pair_fault.number (sym c.pair_fault.ensures ∙ c.in-Some-pair_fault.is)))
 
-pub loop-next-preserved : goal.loop-next-preserved
-loop-next-preserved c =
-    nothing_so_far pair_fault c.args.sorted.now (c.loop-next.next - 1) c.loop-next.next (omega arith) c.loop-next.invariant
-    c.index-sorted-row.result c.index-sorted-next.result c.loop-next-test.true c.index-sorted-row.is c.index-sorted-next.is (sym c.pair_fault.ensures ∙ c.in_default.is)
+pub loop-row-preserved : goal.loop-row-preserved
+loop-row-preserved c =
+    let turn = numbered_turn c.args.sorted.now c.into_iter-row-iterator.result (search rules) (search rules) (search rules) c.loop-row.yielded _ c.loop-row.yielded_by _ _ (c.in-Some.row, c.in-Some.pair) c.in-Some.is c.next.ensures.steps in
+    rw (length_push c.loop-row.yielded (c.in-Some.row, c.in-Some.pair))
+    (nothing_so_far pair_fault c.args.sorted.now (length c.loop-row.yielded) c.loop-row.invariant
+    c.index-pair-0.result c.index-pair-1.result turn.1.within (c.index-pair-0.is ∙ turn.1.first _) (c.index-pair-1.is ∙ turn.1.second _)
+    (sym c.pair_fault.ensures ∙ c.in_default.is))
 
 pub returns : goal.returns
 returns c =
-    ap (option_map (λ p. fault_at p.1 p.0)) (sym (first_between-none pair_fault c.args.sorted.now (λ k d lt. c.loop-next.invariant k d (omega arith))))
+    let past = numbered_end c.args.sorted.now c.into_iter-row-iterator.result (search rules) (search rules) (search rules) c.loop-row.yielded _ c.loop-row.yielded_by _ _ c.in-None.is c.next.ensures.steps in
+    ap (option_map (λ p. fault_at p.1 p.0)) (sym (first_between-none pair_fault c.args.sorted.now (λ k d lt. c.loop-row.invariant k d (omega arith))))
