@@ -52,9 +52,8 @@ pub fn range_fault(
 fn step_fault(sorted: &[Felt]) -> Option<RangeFault>
     ensures { result ≡ q2_fault sorted.now }
 {
-    for next in 1..sorted.len() {
-        let row = next - 1;
-        if !climbs(sorted[row], sorted[next]) {
+    for (row, pair) in sorted.windows(2).enumerate() {
+        if !climbs(pair[0], pair[1]) {
             return Some(RangeFault {
                 number: 2,
                 row: row as u64,
