@@ -11,7 +11,7 @@ ghost use Rattle.memory_columns.specs.Filling.{AreFillers, IsCause, filler_limit
 use crate::{MemoryColumns, SortFault};
 use casm_word::Reads;
 use goldilocks::{Felt, Pair};
-use sorted_lists::{gap_count, gaps};
+use sorted_lists::{gap_count, gaps, put_in_order};
 use std::alloc::{AllocError, Global};
 
 /// The most fillers, in columns and in a file of tables.
@@ -20,7 +20,8 @@ pub const FILLER_LIMIT: u64 = 2097152;
 /// The columns of the accesses, of which there has to be one. The fillers are the cells between the least and the
 /// greatest accessed address that are never accessed. They go by ascending address, each with the memory's value or 0.
 ///
-/// [`SortFault::TooWide`] exactly where the fillers would be more than 2^21. No memory is taken before that is known.
+/// [`SortFault::TooWide`] exactly where the fillers would be more than 2^21. Before that is known, memory is taken only to
+/// put the accesses in order, and want of it there is no error: then they are sorted where they stand.
 pub fn sort_columns<M: Reads>(
     alloc: Global,
     accesses: Vec<Pair>,
@@ -36,8 +37,7 @@ pub fn sort_columns<M: Reads>(
     ensures no_fault { IfOk result (λ c. OneValueEach accesses.items →
         first_memory_fault (accesses.items ++ c.fill.items) c.sorted.items ≡ None) }
 {
-    let mut sorted = accesses;
-    sorted.sort_unstable();
+    let sorted = put_in_order(alloc, accesses);
     let least = sorted[0].addr;
     let greatest = sorted[sorted.len() - 1].addr;
     if gap_count(&sorted, least, greatest) > FILLER_LIMIT {

@@ -3,3 +3,5 @@ pub mod Differences
 pub mod Neighbours
 pub mod Steps
 pub mod Absent
+pub mod Occurrences
+pub mod Tables

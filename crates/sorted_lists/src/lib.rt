@@ -9,9 +9,12 @@ ghost use Rattle.sorted_lists.specs.Order.{in_order};
 ghost use Rattle.sorted_lists.specs.Difference.{list_difference};
 ghost use Rattle.sorted_lists.specs.Climbing.{climb};
 
+mod counting;
 mod keys;
 mod laws;
 
+pub use counting::put_in_order;
+use counting::same_items;
 use goldilocks::Felt;
 pub use keys::{Keyed, gap_count, gaps};
 pub use laws::{climb_laws, difference_laws, in_order_laws, neighbour_laws};
@@ -47,9 +50,10 @@ fn first_unequal<T: PartialEq>(left: &[T], right: &[T]) -> Option<usize>
 /// The first place where two lists differ once both are in order, or the length of the shorter one where all its items
 /// are the other's first ones. It is `None` exactly where the ordered lists are equal.
 ///
-/// Items that compare as equal have to be equal. Memory is taken only where `right` isn't in order already, for its
-/// copy.
-pub fn order_difference<T: Ord + Copy>(
+/// Items that compare as equal have to be equal. Lists with the same items are mostly known by one count of them, with
+/// no sorting: memory is taken for a table with no more slots than `right` has items. Want of it there is no error. Else
+/// both lists are sorted, and then memory is taken only where `right` isn't in order already, for its copy.
+pub fn order_difference<T: Ord + Copy + Keyed>(
     alloc: Global,
     mut left: Vec<T>,
     right: &[T],
@@ -58,6 +62,9 @@ pub fn order_difference<T: Ord + Copy>(
     requires { (x y : T) → T.cmp x y ≡ Equal → x ≡ y }
     ensures { IfOk result (λ place. place ≡ list_difference T.eq (in_order T.cmp left.items) (in_order T.cmp right.now)) }
 {
+    if same_items(alloc, &left, right) {
+        return Ok(None);
+    }
     left.sort_unstable();
     if right.is_sorted() {
         return Ok(first_difference(&left, right));

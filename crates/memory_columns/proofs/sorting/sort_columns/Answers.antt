@@ -3,6 +3,7 @@ use Rattle.goldilocks.specs.declared.Pair.{Pair}
 use Rattle.memory_columns.specs.declared.fault.SortFault.{SortFault}
 use Rattle.memory_columns.specs.declared.fault.SortFault.TheVariants.{Memory}
 use Rattle.memory_columns.specs.Filling.{unaccessed, HasRoom, IsCause}
+use Rattle.memory_columns.proofs.Cells.{pair_equal}
 use Rattle.memory_columns.proofs.Fillings.{Ordered, ordered_ascend, ordered_spans, accessed_spans, ordered_range, same_unaccessed, are_fillers, sorted_accesses, fillers_fit, columns_no_fault}
 use Rattle.memory_columns.proofs.sorting.sort_columns.Given.{Over}
 use Rattle.memory_columns.proofs.sorting.sort_columns.Goals as goal
@@ -15,68 +16,71 @@ memory_cause accesses (Ok a) room is = tt
 memory_cause accesses (Err e) room is = subst (IsCause accesses) (sym is) room
 
 -- the accesses as they are after the first sort
-ordered : (g : Over) (c : After-deref g) → Ordered c.args.accesses.items c.sort_unstable.new.self.items c.index.result.now c.index-2.result.now
+ordered : (g : Over) (c : After-deref g) → Ordered c.args.accesses.items c.put_in_order-sorted.result.items c.index.result.now c.index-2.result.now
 ordered g c =
-    let long : c.len.result ≡ length c.sort_unstable.new.self.items = omega arith in
+    let long : c.len.result ≡ length c.put_in_order-sorted.result.items = omega arith in
     record {
-      moved = c.sort_unstable.ensures.permutation;
-      up = c.sort_unstable.ensures.sorted;
+      moved = c.put_in_order-sorted.ensures.permutation;
+      up = c.put_in_order-sorted.ensures.sorted;
       some = omega arith;
       at_first = c.index.ensures;
-      at_last = c.index-2.ensures ∙ ap (λ n. get_or c.sort_unstable.new.self.items (n - 1) c.index-2.result.now) long;
+      at_last = c.index-2.ensures ∙ ap (λ n. get_or c.put_in_order-sorted.result.items (n - 1) c.index-2.result.now) long;
     }
 
+pub put_in_order-sorted-requires : goal.put_in_order-sorted-requires
+put_in_order-sorted-requires g c = pair_equal
+
 pub gap_count-requires-clause-range : goal.gap_count-requires-clause-range
-gap_count-requires-clause-range g c = ordered_range c.args.accesses.items c.sort_unstable.new.self.items c.index.result.now c.index-2.result.now (ordered g c)
+gap_count-requires-clause-range g c = ordered_range c.args.accesses.items c.put_in_order-sorted.result.items c.index.result.now c.index-2.result.now (ordered g c)
 
 pub gap_count-requires-clause-ascends : goal.gap_count-requires-clause-ascends
-gap_count-requires-clause-ascends g c = rw c.deref.ensures.value (ordered_ascend c.args.accesses.items c.sort_unstable.new.self.items c.index.result.now c.index-2.result.now (ordered g c))
+gap_count-requires-clause-ascends g c = rw c.deref.ensures.value (ordered_ascend c.args.accesses.items c.put_in_order-sorted.result.items c.index.result.now c.index-2.result.now (ordered g c))
 
 pub gap_count-requires-clause-within : goal.gap_count-requires-clause-within
-gap_count-requires-clause-within g c = rw c.deref.ensures.value ((ordered_spans c.args.accesses.items c.sort_unstable.new.self.items c.index.result.now c.index-2.result.now (ordered g c)).within)
+gap_count-requires-clause-within g c = rw c.deref.ensures.value ((ordered_spans c.args.accesses.items c.put_in_order-sorted.result.items c.index.result.now c.index-2.result.now (ordered g c)).within)
 
 pub filled-requires-clause-range : goal.filled-requires-clause-range
-filled-requires-clause-range g c = ordered_range c.args.accesses.items c.sort_unstable.new.self.items c.index.result.now c.index-2.result.now (ordered g (goal.at.filled-requires-clause-range g c).After-deref)
+filled-requires-clause-range g c = ordered_range c.args.accesses.items c.put_in_order-sorted.result.items c.index.result.now c.index-2.result.now (ordered g (goal.at.filled-requires-clause-range g c).After-deref)
 
 pub filled-requires-clause-ascends : goal.filled-requires-clause-ascends
-filled-requires-clause-ascends g c = ordered_ascend c.args.accesses.items c.sort_unstable.new.self.items c.index.result.now c.index-2.result.now (ordered g (goal.at.filled-requires-clause-ascends g c).After-deref)
+filled-requires-clause-ascends g c = ordered_ascend c.args.accesses.items c.put_in_order-sorted.result.items c.index.result.now c.index-2.result.now (ordered g (goal.at.filled-requires-clause-ascends g c).After-deref)
 
 pub filled-requires-clause-within : goal.filled-requires-clause-within
-filled-requires-clause-within g c = (ordered_spans c.args.accesses.items c.sort_unstable.new.self.items c.index.result.now c.index-2.result.now (ordered g (goal.at.filled-requires-clause-within g c).After-deref)).within
+filled-requires-clause-within g c = (ordered_spans c.args.accesses.items c.put_in_order-sorted.result.items c.index.result.now c.index-2.result.now (ordered g (goal.at.filled-requires-clause-within g c).After-deref)).within
 
 pub returns-then-gap_count-gt-FILLER_LIMIT-clause-cause : goal.returns-then-gap_count-gt-FILLER_LIMIT-clause-cause
 unfolding IsCause unaccessed
 returns-then-gap_count-gt-FILLER_LIMIT-clause-cause g c =
-    let o : Ordered c.args.accesses.items c.sort_unstable.new.self.items c.index.result.now c.index-2.result.now = (ordered g (goal.at.returns-then-gap_count-gt-FILLER_LIMIT-clause-cause g c).After-deref) in
+    let o : Ordered c.args.accesses.items c.put_in_order-sorted.result.items c.index.result.now c.index-2.result.now = (ordered g (goal.at.returns-then-gap_count-gt-FILLER_LIMIT-clause-cause g c).After-deref) in
     let count : c.gap_count.result ≡ length (unaccessed c.args.accesses.items c.index.result.now.addr.number c.index-2.result.now.addr.number) =
-    (rw c.deref.ensures.value at c.gap_count.ensures) ∙ ap length (same_unaccessed c.args.accesses.items c.sort_unstable.new.self.items c.index.result.now c.index-2.result.now o) in
-    (accessed_spans c.args.accesses.items c.sort_unstable.new.self.items c.index.result.now c.index-2.result.now o, omega (arith, count))
+    (rw c.deref.ensures.value at c.gap_count.ensures) ∙ ap length (same_unaccessed c.args.accesses.items c.put_in_order-sorted.result.items c.index.result.now c.index-2.result.now o) in
+    (accessed_spans c.args.accesses.items c.put_in_order-sorted.result.items c.index.result.now c.index-2.result.now o, omega (arith, count))
 
 pub returns-clause-fill : goal.returns-clause-fill
-returns-clause-fill g c = are_fillers c.args.accesses.items c.sort_unstable.new.self.items c.index.result.now c.index-2.result.now (ordered g (goal.at.returns-clause-fill g c).After-deref) (g.M.Reads.cells c.args.m.now) c.in_ok-filled.field-0.fill.items c.in_ok-filled.field-0.sorted.items c.in_ok-filled.ensures.fill c.in_ok-filled.ensures.sorted
+returns-clause-fill g c = are_fillers c.args.accesses.items c.put_in_order-sorted.result.items c.index.result.now c.index-2.result.now (ordered g (goal.at.returns-clause-fill g c).After-deref) (g.M.Reads.cells c.args.m.now) c.in_ok-filled.field-0.fill.items c.in_ok-filled.field-0.sorted.items c.in_ok-filled.ensures.fill c.in_ok-filled.ensures.sorted
 
 pub returns-clause-sorted : goal.returns-clause-sorted
-returns-clause-sorted g c = sorted_accesses c.args.accesses.items c.sort_unstable.new.self.items c.index.result.now c.index-2.result.now (ordered g (goal.at.returns-clause-sorted g c).After-deref) (g.M.Reads.cells c.args.m.now) c.in_ok-filled.field-0.fill.items c.in_ok-filled.field-0.sorted.items c.in_ok-filled.ensures.fill c.in_ok-filled.ensures.sorted
+returns-clause-sorted g c = sorted_accesses c.args.accesses.items c.put_in_order-sorted.result.items c.index.result.now c.index-2.result.now (ordered g (goal.at.returns-clause-sorted g c).After-deref) (g.M.Reads.cells c.args.m.now) c.in_ok-filled.field-0.fill.items c.in_ok-filled.field-0.sorted.items c.in_ok-filled.ensures.fill c.in_ok-filled.ensures.sorted
 
 pub returns-clause-room : goal.returns-clause-room
 unfolding unaccessed
 returns-clause-room g c =
-    let count : c.gap_count.result ≡ length (unaccessed c.sort_unstable.new.self.items c.index.result.now.addr.number c.index-2.result.now.addr.number) = rw c.deref.ensures.value at c.gap_count.ensures in
-    fillers_fit c.args.accesses.items c.sort_unstable.new.self.items c.index.result.now c.index-2.result.now (ordered g (goal.at.returns-clause-room g c).After-deref) (g.M.Reads.cells c.args.m.now) c.in_ok-filled.field-0.fill.items c.in_ok-filled.field-0.sorted.items c.in_ok-filled.ensures.fill c.in_ok-filled.ensures.sorted (omega (arith, count))
+    let count : c.gap_count.result ≡ length (unaccessed c.put_in_order-sorted.result.items c.index.result.now.addr.number c.index-2.result.now.addr.number) = rw c.deref.ensures.value at c.gap_count.ensures in
+    fillers_fit c.args.accesses.items c.put_in_order-sorted.result.items c.index.result.now c.index-2.result.now (ordered g (goal.at.returns-clause-room g c).After-deref) (g.M.Reads.cells c.args.m.now) c.in_ok-filled.field-0.fill.items c.in_ok-filled.field-0.sorted.items c.in_ok-filled.ensures.fill c.in_ok-filled.ensures.sorted (omega (arith, count))
 
 pub returns-clause-no_fault : goal.returns-clause-no_fault
-returns-clause-no_fault g c = columns_no_fault c.args.accesses.items c.sort_unstable.new.self.items c.index.result.now c.index-2.result.now (ordered g (goal.at.returns-clause-no_fault g c).After-deref) (g.M.Reads.cells c.args.m.now) c.in_ok-filled.field-0.fill.items c.in_ok-filled.field-0.sorted.items c.in_ok-filled.ensures.fill c.in_ok-filled.ensures.sorted
+returns-clause-no_fault g c = columns_no_fault c.args.accesses.items c.put_in_order-sorted.result.items c.index.result.now c.index-2.result.now (ordered g (goal.at.returns-clause-no_fault g c).After-deref) (g.M.Reads.cells c.args.m.now) c.in_ok-filled.field-0.fill.items c.in_ok-filled.field-0.sorted.items c.in_ok-filled.ensures.fill c.in_ok-filled.ensures.sorted
 
 pub returns-in_err-filled-clause-cause : goal.returns-in_err-filled-clause-cause
 unfolding IsCause unaccessed
 returns-in_err-filled-clause-cause g c =
-    let o : Ordered c.args.accesses.items c.sort_unstable.new.self.items c.index.result.now c.index-2.result.now = (ordered g (goal.at.returns-in_err-filled-clause-cause g c).After-deref) in
+    let o : Ordered c.args.accesses.items c.put_in_order-sorted.result.items c.index.result.now c.index-2.result.now = (ordered g (goal.at.returns-in_err-filled-clause-cause g c).After-deref) in
     let count : c.gap_count.result ≡ length (unaccessed c.args.accesses.items c.index.result.now.addr.number c.index-2.result.now.addr.number) =
-    (rw c.deref.ensures.value at c.gap_count.ensures) ∙ ap length (same_unaccessed c.args.accesses.items c.sort_unstable.new.self.items c.index.result.now c.index-2.result.now o) in
+    (rw c.deref.ensures.value at c.gap_count.ensures) ∙ ap length (same_unaccessed c.args.accesses.items c.put_in_order-sorted.result.items c.index.result.now c.index-2.result.now o) in
     let room : HasRoom c.args.accesses.items = record {
       least = c.index.result.now.addr.number;
       greatest = c.index-2.result.now.addr.number;
-      spans = accessed_spans c.args.accesses.items c.sort_unstable.new.self.items c.index.result.now c.index-2.result.now o;
+      spans = accessed_spans c.args.accesses.items c.put_in_order-sorted.result.items c.index.result.now c.index-2.result.now o;
       few = omega (arith, count);
     } in
     memory_cause c.args.accesses.items c.from_residual.result room c.from_residual.ensures.1
