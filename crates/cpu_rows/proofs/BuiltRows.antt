@@ -1,6 +1,7 @@
 -- What the code that builds a row finds: the row of a step, or that there is no step.
-use Rattle.std.proofs.Common.{◌≡◌, ℕ, ◌<◌, ◌∙◌, Bool, true, false, List, Option, Some, None, Ok, Err, refl, sym, ap, subst, inl, inr}
+use Rattle.std.proofs.Common.{◌≡◌, ℕ, ◌<◌, ◌∙◌, Bool, true, false, List, Option, Some, None, Result, Ok, Err, refl, sym, ap, subst, inl, inr}
 use Rattle.std.specs.List.{All}
+use Rattle.std.specs.Result.{result_ok}
 use Rattle.std.specs.Prelude.{slice_range, ◌↔◌, unwrap_or, IsNone, IfSome, MatchBool}
 use Rattle.goldilocks.specs.declared.Felt.{Felt}
 use Rattle.goldilocks.specs.Field.{prime}
@@ -29,9 +30,14 @@ pub next-no_word : (m : Memory) (s : Registers) → m s.pc ≡ None → next m s
 unfolding next
 next-no_word m s c0 = rw c0 refl
 
-pub next-fault : (m : Memory) (s : Registers) (n : ℕ) (fault : WordFault) → m s.pc ≡ Some n → decoding n ≡ Err fault → next m s ≡ None
+pub next-undecoded : (m : Memory) (s : Registers) (n : ℕ) → m s.pc ≡ Some n → result_ok (decoding n) ≡ None → next m s ≡ None
 unfolding next
-next-fault m s n fault c0 e = rw (c0, e) refl
+next-undecoded m s n c0 e = rw (c0, e) refl
+
+-- what a decoding gives where it gives a word
+pub Ok-from_ok : (r : Result Word WordFault) (w : Word) → Some w ≡ result_ok r → r ≡ Ok w
+Ok-from_ok (Ok v) w e = cc
+Ok-from_ok (Err fault) w e = cc
 
 pub next-no_dst : (m : Memory) (s : Registers) (n : ℕ) (w : Word) → m s.pc ≡ Some n → decoding n ≡ Ok w → m (dst_address w s) ≡ None → next m s ≡ None
 unfolding next
@@ -76,8 +82,8 @@ pub cell_at : (m : Memory) (found : Option ℕ) (a b : ℕ) → a ≡ b → foun
 cell_at m found a b e h = sym (ap m e) ∙ sym h
 
 -- no row where there is no step
-pub no_row : (found : Option Registers) (after : Registers) → found ≡ None → (false ≡ true → found ≡ Some after) × (found ≡ Some after → false ≡ true)
-no_row found after e = ((λ h. absurd (differ h)), (λ h. absurd (none_some (sym e ∙ h))))
+pub no_row : {R : Type 0} (row : Option R) (found : Option Registers) (after : Registers) → row ≡ None → found ≡ None → (is_some row ≡ true → found ≡ Some after) × (found ≡ Some after → is_some row ≡ true)
+no_row row found after none e = ((λ h. absurd (differ (sym (ap is_some none) ∙ h))), (λ h. absurd (none_some (sym e ∙ h))))
   where
     differ : false ≡ true → ⊥
     differ h = cc

@@ -1,5 +1,5 @@
 //! The row of a step.
-#![tactic(auto, using(std::proofs::lemmas::Nat::and_mask), unfolding(crate::specs::Steps::tilde_of, casm_word::specs::Transition::registers))]
+#![tactic(auto, unfolding(casm_word::specs::Transition::registers))]
 
 ghost use Rattle.std.specs.Prelude.{◌≡◌, ◌<◌, ◌/◌, ◌%◌, ◌^◌, ◌↔◌, ℕ, IsSome, IsNone, IfSome};
 ghost use Rattle.casm_word.specs.Word.{decoding};
@@ -37,16 +37,9 @@ pub fn build_row<M: Reads>(m: &M, from: State, to: State) -> Option<Row>
     ensures tells { IfSome result (λ r. Tells (M.cells m.now) (registers from) (registers to) (columns r)) }
     ensures no_fault { IfSome result (λ r. fault (columns r) (registers to) ≡ None) }
 {
-    let Some(inst) = m.read(from.pc) else {
-        return None;
-    };
-    let word = match decode(inst.number) {
-        Ok(word) => word,
-        Err(_) => return None,
-    };
-    let Some(operands) = read_operands(m, from, word) else {
-        return None;
-    };
+    let inst = m.read(from.pc)?;
+    let word = decode(inst.number).ok()?;
+    let operands = read_operands(m, from, word)?;
     let row = row_with(from, inst, word, operands);
     // The other equations hold by how the row is made.
     if row.step_fault(word.flags, to).is_some() {
@@ -67,17 +60,11 @@ fn read_operands<M: Reads>(m: &M, from: State, word: Word) -> Option<Operands>
         next (M.cells m.now) (registers from) ≡ None }
 {
     let dst_addr = word.dst_address(from);
-    let Some(dst) = m.read(dst_addr) else {
-        return None;
-    };
+    let dst = m.read(dst_addr)?;
     let op0_addr = word.op0_address(from);
-    let Some(op0) = m.read(op0_addr) else {
-        return None;
-    };
+    let op0 = m.read(op0_addr)?;
     let op1_addr = word.op1_address(from, op0);
-    let Some(op1) = m.read(op1_addr) else {
-        return None;
-    };
+    let op1 = m.read(op1_addr)?;
     Some(Operands {
         dst_addr,
         op0_addr,
@@ -174,6 +161,7 @@ fn bits_from(inst: Felt, place: u32) -> Felt
 }
 
 /// The offset whose sixteen bits begin at bit `place` of the word `inst`, with 2^15 added.
+#[tactic(auto, using(std::proofs::lemmas::Nat::and_mask))]
 fn offset_at(inst: Felt, place: u32) -> Felt
     requires { place < 64 }
     ensures { result.number ≡ bits_from inst.number place % 2 ^ 16 }

@@ -1,5 +1,4 @@
 //! The equations of a row, evaluated.
-#![tactic(auto, unfolding(crate::specs::Equations::EquationHolds, crate::specs::Equations::holds, crate::specs::Equations::failing_number))]
 
 ghost use Rattle.std.specs.Prelude.{◌≡◌, ◌≢◌, ◌<◌, ◌+◌, if◌then◌else◌, [], ◌∷◌, ◌↔◌, IsNone, IfSome, IfOk, IfErr, MatchResult, take, drop, slice_range, option_map};
 ghost use Rattle.goldilocks.specs.Field.{field_mul};
@@ -248,6 +247,7 @@ fn shape_fault(flags: Flags) -> Option<u8>
 }
 
 /// The equation of this number, where its sides differ.
+#[tactic(auto, unfolding(crate::specs::Equations::failing_number, crate::specs::Equations::holds))]
 fn unmet(number: u8, left: Felt, right: Felt) -> Option<u8>
     ensures { result ≡ failing_number (C number (left.number ≐ right.number) ∷ []) }
 {

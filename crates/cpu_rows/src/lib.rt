@@ -54,7 +54,6 @@ pub struct Row {
     pub t1: Felt,
 }
 
-#[tactic(auto, unfolding(crate::specs::Columns::columns, crate::specs::Columns::values, crate::specs::Columns::state_of, casm_word::specs::Transition::registers))]
 impl Row {
     ghost use Rattle.std.specs.Prelude.{◌≡◌};
     ghost use Rattle.casm_word.specs.Transition.{registers};

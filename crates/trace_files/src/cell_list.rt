@@ -88,10 +88,5 @@ fn likely_cell(cells: &[Pair], a: Felt) -> Option<Pair>
 fn ascend(cells: &[Pair]) -> bool
     ensures { IsTrue result ↔ IsStrictlyIncreasing (addresses cells.now) }
 {
-    for next in 1..cells.len() {
-        if cells[next].addr.get() <= cells[next - 1].addr.get() {
-            return false;
-        }
-    }
-    true
+    cells.is_sorted_by(|cell, next| cell.addr.get() < next.addr.get())
 }
