@@ -3,6 +3,7 @@
 ghost use Rattle.std.specs.Prelude.{◌≡◌, ◌%◌};
 ghost use Rattle.goldilocks.specs.Field.{prime};
 
+mod counting;
 mod lists;
 mod memory;
 mod range;

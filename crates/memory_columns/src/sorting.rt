@@ -20,8 +20,8 @@ pub const FILLER_LIMIT: u64 = 2097152;
 /// The columns of the accesses, of which there has to be one. The fillers are the cells between the least and the
 /// greatest accessed address that are never accessed. They go by ascending address, each with the memory's value or 0.
 ///
-/// [`SortFault::TooWide`] exactly where the fillers would be more than 2^21. Before that is known, memory is taken only to
-/// put the accesses in order, and want of it there is no error: then they are sorted where they stand.
+/// [`SortFault::TooWide`] exactly where the fillers would be more than 2^21. Before that is known, memory is taken only
+/// to put the accesses in order. Want of it there is no error: then they are sorted where they stand.
 pub fn sort_columns<M: Reads>(
     alloc: Global,
     accesses: Vec<Pair>,

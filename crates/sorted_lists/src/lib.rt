@@ -50,9 +50,9 @@ fn first_unequal<T: PartialEq>(left: &[T], right: &[T]) -> Option<usize>
 /// The first place where two lists differ once both are in order, or the length of the shorter one where all its items
 /// are the other's first ones. It is `None` exactly where the ordered lists are equal.
 ///
-/// Items that compare as equal have to be equal. Lists with the same items are mostly known by one count of them, with
-/// no sorting: memory is taken for a table with no more slots than `right` has items. Want of it there is no error. Else
-/// both lists are sorted, and then memory is taken only where `right` isn't in order already, for its copy.
+/// Items that compare as equal have to be equal. Lists with the same items are mostly known by one count of them. For it
+/// memory is taken for a table with no more slots than `right` has items, and want of that is no error. Else both lists
+/// are sorted, and then memory is taken only where `right` isn't in order already, for its copy.
 pub fn order_difference<T: Ord + Copy + Keyed>(
     alloc: Global,
     mut left: Vec<T>,

@@ -1,0 +1,252 @@
+//! The calls that count where they can, and sort where they can't: both ways come to the same answer.
+
+use super::{Cells, LAST, cells, felts};
+use memory_columns::{MemoryColumns, memory_fault, sort_columns};
+use range_columns::range_fault;
+use sorted_lists::order_difference;
+use std::test::Fail;
+
+/// A name, two lists of cells, and the first place where they differ in order.
+type Difference = (&'static str, Cells, Cells, Option<usize>);
+
+const DIFFERENCES: &[Difference] = &[
+    ("no cells", &[], &[], None),
+    ("one cell", &[(1, 5)], &[(1, 5)], None),
+    ("one cell and none", &[(1, 5)], &[], Some(0)),
+    ("another value of one cell", &[(1, 5)], &[(1, 6)], Some(0)),
+    (
+        "any order",
+        &[(3, 7), (1, 5), (2, 6), (1, 5)],
+        &[(1, 5), (1, 5), (2, 6), (3, 7)],
+        None,
+    ),
+    (
+        "one cell more",
+        &[(2, 6), (1, 5), (2, 6)],
+        &[(1, 5), (2, 6)],
+        Some(2),
+    ),
+    ("one cell less", &[(1, 5)], &[(1, 5), (2, 6)], Some(1)),
+    (
+        "one count exchanged",
+        &[(1, 5), (2, 6), (1, 5)],
+        &[(1, 5), (2, 6), (2, 6)],
+        Some(1),
+    ),
+    (
+        "two values at an address",
+        &[(1, 6), (1, 5)],
+        &[(1, 5), (1, 6)],
+        None,
+    ),
+    (
+        "two values on the left",
+        &[(1, 6), (1, 5)],
+        &[(1, 5), (1, 5)],
+        Some(1),
+    ),
+    (
+        "addresses wrap",
+        &[(0, 9), (LAST, 7)],
+        &[(LAST, 7), (0, 9)],
+        None,
+    ),
+    (
+        "a count exchanged where they wrap",
+        &[(0, 9), (LAST, 7), (0, 9)],
+        &[(LAST, 7), (LAST, 7), (0, 9)],
+        Some(1),
+    ),
+    (
+        "the widest span",
+        &[(3, 7), (1, 5), (1, 5)],
+        &[(1, 5), (1, 5), (3, 7)],
+        None,
+    ),
+    (
+        "a wider span",
+        &[(4, 8), (1, 5), (1, 5)],
+        &[(1, 5), (1, 5), (4, 8)],
+        None,
+    ),
+    (
+        "another value in a wider span",
+        &[(4, 9), (1, 5), (1, 5)],
+        &[(1, 5), (1, 5), (4, 8)],
+        Some(2),
+    ),
+    (
+        "the right list descends",
+        &[(1, 5), (2, 6)],
+        &[(2, 6), (1, 5)],
+        None,
+    ),
+];
+
+#[test]
+fn cells_are_compared_in_order(rt: HostRuntime) -> Result<(), Fail> {
+    for (name, left, right, place) in DIFFERENCES {
+        let left = cells(rt.alloc(), left)?;
+        let right = cells(rt.alloc(), right)?;
+        let found = order_difference(rt.alloc(), left, &right)?;
+        assert!(rt; found == *place, "{name}");
+    }
+    Ok(())
+}
+
+/// A name, the accesses, the sorted pairs, and the row at which M3 fails.
+type Memory = (&'static str, Cells, Cells, Option<u64>);
+
+const MEMORIES: &[Memory] = &[
+    ("one access", &[(1, 5)], &[(1, 5)], None),
+    ("another value", &[(1, 6)], &[(1, 5)], Some(0)),
+    (
+        "any order",
+        &[(3, 7), (1, 5), (2, 6), (1, 5)],
+        &[(1, 5), (1, 5), (2, 6), (3, 7)],
+        None,
+    ),
+    (
+        "one access more",
+        &[(2, 6), (1, 5), (2, 6)],
+        &[(1, 5), (2, 6)],
+        Some(2),
+    ),
+    (
+        "one count exchanged",
+        &[(1, 5), (2, 6), (1, 5)],
+        &[(1, 5), (2, 6), (2, 6)],
+        Some(1),
+    ),
+    (
+        "two values at an address",
+        &[(1, 6), (1, 5)],
+        &[(1, 5), (1, 5)],
+        Some(1),
+    ),
+    (
+        "an address behind the last",
+        &[(9, 6), (1, 5)],
+        &[(1, 5), (2, 6)],
+        Some(1),
+    ),
+    (
+        "addresses wrap",
+        &[(1, 8), (0, 9), (LAST, 7), (0, 9)],
+        &[(LAST, 7), (0, 9), (0, 9), (1, 8)],
+        None,
+    ),
+    (
+        "a count exchanged where they wrap",
+        &[(0, 9), (LAST, 7), (0, 9)],
+        &[(LAST, 7), (LAST, 7), (0, 9)],
+        Some(1),
+    ),
+];
+
+#[test]
+fn accesses_are_compared_in_order(rt: HostRuntime) -> Result<(), Fail> {
+    for (name, accesses, sorted, row) in MEMORIES {
+        let accesses = cells(rt.alloc(), accesses)?;
+        let sorted = cells(rt.alloc(), sorted)?;
+        let found = memory_fault(rt.alloc(), accesses, &sorted)?;
+        let fault = row.map(|row| (3, row));
+        assert!(rt; found.map(|f| (f.number, f.row)) == fault, "{name}");
+    }
+    Ok(())
+}
+
+/// A name, the values, the sorted ones from the least to the greatest, these two, and the row at which Q4 fails.
+type Range = (
+    &'static str,
+    &'static [u64],
+    &'static [u64],
+    u32,
+    u32,
+    Option<u64>,
+);
+
+const RANGES: &[Range] = &[
+    ("no values", &[], &[5], 5, 5, Some(0)),
+    ("one value", &[5], &[5], 5, 5, None),
+    ("any order", &[7, 5, 6, 5], &[5, 5, 6, 7], 5, 7, None),
+    (
+        "the greatest value twice",
+        &[65535, 65535],
+        &[65535, 65535],
+        65535,
+        65535,
+        None,
+    ),
+    ("one value more", &[6, 5, 6], &[5, 6], 5, 6, Some(2)),
+    ("one count exchanged", &[5, 6, 5], &[5, 6, 6], 5, 6, Some(1)),
+    ("a value above", &[9, 5], &[5, 6], 5, 6, Some(1)),
+    ("a value below", &[4, 5], &[5, 6], 5, 6, Some(0)),
+];
+
+#[test]
+fn values_are_compared_in_order(rt: HostRuntime) -> Result<(), Fail> {
+    for (name, values, sorted, min, max, row) in RANGES {
+        let values = felts(rt.alloc(), values)?;
+        let sorted = felts(rt.alloc(), sorted)?;
+        assert!(rt; !sorted.is_empty() && *min <= *max && *max < 65536);
+        let found = range_fault(rt.alloc(), values, &sorted, *min, *max)?;
+        let fault = row.map(|row| (4, row));
+        assert!(rt; found.map(|f| (f.number, f.row)) == fault, "{name}");
+    }
+    Ok(())
+}
+
+/// A name, the accesses, the fillers between them, and all of them in order.
+type Columns = (&'static str, Cells, Cells, Cells);
+
+const COLUMNS: &[Columns] = &[
+    ("one access", &[(7, 1)], &[], &[(7, 1)]),
+    (
+        "any order",
+        &[(2, 6), (1, 5), (2, 6)],
+        &[],
+        &[(1, 5), (2, 6), (2, 6)],
+    ),
+    (
+        "two values at an address",
+        &[(1, 6), (2, 7), (1, 5)],
+        &[],
+        &[(1, 5), (1, 6), (2, 7)],
+    ),
+    (
+        "the widest span",
+        &[(3, 7), (1, 5), (1, 5)],
+        &[(2, 0)],
+        &[(1, 5), (1, 5), (2, 0), (3, 7)],
+    ),
+    (
+        "a wider span",
+        &[(4, 8), (1, 5), (1, 5)],
+        &[(2, 0), (3, 0)],
+        &[(1, 5), (1, 5), (2, 0), (3, 0), (4, 8)],
+    ),
+    (
+        "up to the last address",
+        &[(LAST, 7), (LAST - 1, 6)],
+        &[],
+        &[(LAST - 1, 6), (LAST, 7)],
+    ),
+];
+
+#[test]
+fn accesses_are_put_in_order(rt: HostRuntime) -> Result<(), Fail> {
+    let nothing = MemoryColumns {
+        fill: Vec::new(rt.alloc()),
+        sorted: Vec::new(rt.alloc()),
+    };
+    for (name, accesses, fill, sorted) in COLUMNS {
+        let accesses = cells(rt.alloc(), accesses)?;
+        assert!(rt; !accesses.is_empty());
+        let columns = sort_columns(rt.alloc(), accesses, &nothing)?;
+        let fill = cells(rt.alloc(), fill)?;
+        let sorted = cells(rt.alloc(), sorted)?;
+        assert!(rt; columns.fill == fill && columns.sorted == sorted, "{name}");
+    }
+    Ok(())
+}
