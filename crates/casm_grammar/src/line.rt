@@ -11,7 +11,7 @@ ghost use Rattle.casm_grammar.specs.Views.{seen_all, seen_reading};
 
 use crate::directive::Directive;
 use crate::marks::{
-    after_directive, after_sign, expect_sign, label, nothing, number_up_to, refused,
+    after_directive, after_sign, expect_sign, label, nothing, refused, refused_before,
 };
 use crate::phrase::{Line, Phrase, TargetRef};
 use crate::refusal::{Parsed, Refusal};
@@ -32,10 +32,7 @@ fn target<'a>(tokens: &'a [Lexeme<'a>]) -> Parsed<'a, TargetRef<'a>>
             if value.number <= 4294967295 {
                 Ok((TargetRef::Number(value.number as u32), rest))
             } else {
-                Err(Refusal {
-                    left: rest.len() + 1,
-                    kind: SyntaxKind::Range,
-                })
+                Err(refused_before(rest, SyntaxKind::Range))
             }
         }
         _ => Err(refused(tokens)),

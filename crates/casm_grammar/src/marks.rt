@@ -1,5 +1,5 @@
 //! Single tokens.
-ghost use Rattle.std.specs.Prelude.{◌≡◌, ◌≤◌, length, IfOk};
+ghost use Rattle.std.specs.Prelude.{◌≡◌, ◌+◌, ◌≤◌, length, IfOk};
 ghost use Rattle.casm_grammar.specs.Readers.{sign_code, word_code, directive_code, after_sign, after_word, after_directive};
 ghost use Rattle.casm_grammar.specs.Readers.{expect_sign, expect_word, number_in, number_up_to, zero_in, label_in, nothing_in};
 ghost use Rattle.casm_grammar.specs.Seen.{seen};
@@ -39,6 +39,16 @@ pub(crate) fn refused(tokens: &[Lexeme<'_>]) -> Refusal
     Refusal {
         left: tokens.len(),
         kind: SyntaxKind::Token,
+    }
+}
+
+/// The refusal at the token before these.
+pub(crate) fn refused_before(rest: &[Lexeme<'_>], kind: SyntaxKind) -> Refusal
+    ensures { result ≡ record { left = length rest.now + 1; kind = kind } }
+{
+    Refusal {
+        left: rest.len() + 1,
+        kind,
     }
 }
 
@@ -154,10 +164,7 @@ pub(crate) fn number_up_to<'a>(tokens: &'a [Lexeme<'a>], most: u64) -> Parsed<'a
     if value.number <= most {
         Ok((value, rest))
     } else {
-        Err(Refusal {
-            left: rest.len() + 1,
-            kind: SyntaxKind::Range,
-        })
+        Err(refused_before(rest, SyntaxKind::Range))
     }
 }
 
@@ -170,10 +177,7 @@ pub(crate) fn zero<'a>(tokens: &'a [Lexeme<'a>]) -> Result<&'a [Lexeme<'a>], Ref
     if value.number == 0 {
         Ok(rest)
     } else {
-        Err(Refusal {
-            left: rest.len() + 1,
-            kind: SyntaxKind::Token,
-        })
+        Err(refused_before(rest, SyntaxKind::Token))
     }
 }
 
@@ -196,9 +200,8 @@ pub(crate) fn label<'a>(tokens: &'a [Lexeme<'a>]) -> Parsed<'a, Label<'a>>
 pub(crate) fn nothing(tokens: &[Lexeme<'_>]) -> Result<(), Refusal>
     ensures { seen_all (λ x. x) result ≡ nothing_in (seen tokens.now) }
 {
-    if tokens.is_empty() {
-        Ok(())
-    } else {
-        Err(refused(tokens))
+    match tokens.first() {
+        None => Ok(()),
+        Some(_) => Err(refused(tokens)),
     }
 }
