@@ -56,8 +56,8 @@ fn lists_are_compared_in_order(rt: HostRuntime) -> Result<(), Fail> {
             first_difference(left, right) == *as_they_are,
             "{left:?} {right:?}"
         );
-        let copy = left.to_vec(rt.alloc())?;
-        let found = order_difference(rt.alloc(), copy, right)?;
+        let values = felts(rt.alloc(), left)?;
+        let found = order_difference(rt.alloc(), values, &felts(rt.alloc(), right)?)?;
         assert!(rt; found == *in_order, "{left:?} {right:?} in order");
     }
     Ok(())
