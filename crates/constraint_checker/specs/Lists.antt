@@ -6,7 +6,7 @@ use Rattle.goldilocks.specs.declared.Pair.{Pair}
 use Rattle.cpu_rows.specs.declared.Row.{Row}
 use Rattle.range_columns.specs.declared.RangeRow.{RangeRow}
 use Rattle.access_lists.specs.Accesses.{AccessParts, accesses as accesses_of}
-use Rattle.access_lists.specs.SmallValues.{SmallParts, small_values}
+use Rattle.access_lists.specs.SmallValues.{small_values}
 use Rattle.program_file.specs.Listing.{Listing}
 use Rattle.public_input.specs.Statement.{Statement}
 use Rattle.table_file.specs.Tables.{Contents}

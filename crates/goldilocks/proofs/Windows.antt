@@ -4,7 +4,6 @@ use Rattle.std.specs.declared.iter.Enumerate.{Enumerate}
 use Rattle.std.specs.declared.slice.Windows.{Windows}
 use Rattle.std.specs.Iterator.{Yields}
 use Rattle.std.specs.Iterator.Adapters.{enumerate_source, enumerate_count, enumerate_steps}
-use Rattle.std.specs.List.{enumerate_from}
 use Rattle.std.specs.Slice.Iter.{windows_rest, windows_size, windows_steps}
 use Rattle.std.proofs.lemmas.Iterator.{YieldsList}
 use Rattle.std.proofs.lemmas.Iterator.Consumers.{YieldsList-from_enumerate, YieldsList-turn, YieldsList-end}

@@ -1,5 +1,4 @@
 use Rattle.std.proofs.Common.{◌≡◌, ◌∙◌, ap, sym}
-use Rattle.public_input.specs.Statement.{statement}
 use Rattle.table_file.specs.Tables.{contents}
 use Rattle.range_columns.specs.Equations.{first_range_fault}
 use Rattle.constraint_checker.specs.Lists.{table_small_values}
