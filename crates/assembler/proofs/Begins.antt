@@ -3,6 +3,7 @@ use Rattle.std.proofs.Common.{◌≡◌, ℕ, ◌-◌, ◌/◌, ◌%◌, ◌^◌
 use Rattle.std.specs.Bool.{if◌then◌else◌}
 use Rattle.std.specs.Prelude.{FitsSigned}
 use Rattle.std.specs.Option.{option_to_list}
+use Rattle.std.specs.Result.{result_ok}
 use Rattle.std.specs.Ordering.{int_eq}
 use Rattle.std.proofs.Math.Nat.{mod-lt}
 use Rattle.std.proofs.lemmas.Bool.{cases_Bool, cases_eq, cases_lt, false≢true, true≢false}
@@ -235,11 +236,15 @@ begins_or_not (v ∷ vs) = by (decoding v.number) refl
 pub begins_with_none-empty : (ws : List Felt) → ws ≡ [] → BeginsWithNone ws
 begins_with_none-empty ws e s ys b = begins_not_empty s ys (subst (λ (xs : List Felt). BeginsWith xs s ys) e b)
 
-pub begins_with_none-undecoded : (ws : List Felt) (v : Felt) (vs : List Felt) (f : WordFault) → ws ≡ v ∷ vs → decoding v.number ≡ Err f → BeginsWithNone ws
-begins_with_none-undecoded ws v vs f e h s ys b =
+pub begins_with_none-undecoded : (ws : List Felt) (v : Felt) (vs : List Felt) → ws ≡ v ∷ vs → result_ok (decoding v.number) ≡ None → BeginsWithNone ws
+begins_with_none-undecoded ws v vs e h s ys b =
     let d = begins_decodes v vs s ys (subst (λ (xs : List Felt). BeginsWith xs s ys) e b) in
-    let w = d.word in
+    let there : result_ok (decoding v.number) ≡ Some (encoding s).0 = ap result_ok d.word in
     cc
+
+pub decoding-Ok : (r : Result Word WordFault) (w : Word) → result_ok r ≡ Some w → r ≡ Ok w
+decoding-Ok (Ok x) w h = cc
+decoding-Ok (Err f) w h = absurd cc
 
 pub begins_with_statement : (ws : List Felt) (v : Felt) (vs : List Felt) (w : Word) (imm : Option Felt) (others : List Felt) (s : Stmt) → ws ≡ v ∷ vs → decoding v.number ≡ Ok w → vs ≡ option_to_list imm ++ others → encoding s ≡ (w, imm) → BeginsWith ws s others
 begins_with_statement ws v vs w imm others s e h rest is =

@@ -13,19 +13,10 @@ use goldilocks::Felt;
 pub(crate) fn first_statement(words: &[Felt]) -> Option<(Stmt, &[Felt])>
     ensures { MatchOption result (BeginsWithNone words.now) (λ p. BeginsWith words.now p.0 p.1.now) }
 {
-    let Some((first, rest)) = words.split_first() else {
-        return None;
-    };
-    let Ok(word) = decode(first.number) else {
-        return None;
-    };
-    let Some((immediate, others)) = split_immediate(&word, rest) else {
-        return None;
-    };
-    match of_word(&word, immediate) {
-        Some(stmt) => Some((stmt, others)),
-        None => None,
-    }
+    let (first, rest) = words.split_first()?;
+    let word = decode(first.number).ok()?;
+    let (immediate, others) = split_immediate(&word, rest)?;
+    of_word(&word, immediate).map(|stmt| (stmt, others))
 }
 
 /// The immediate of an instruction word, if it has one, and the words after it; `None` where it is missing.
@@ -37,8 +28,6 @@ fn split_immediate<'a>(word: &Word, rest: &'a [Felt]) -> Option<(Option<Felt>, &
     if !word.flags.op1_imm {
         return Some((None, rest));
     }
-    match rest.split_first() {
-        Some((value, others)) => Some((Some(*value), others)),
-        None => None,
-    }
+    rest.split_first()
+        .map(|(value, others)| (Some(*value), others))
 }
