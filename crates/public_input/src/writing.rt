@@ -1,6 +1,7 @@
 //! Writing a public file.
-ghost use Rattle.std.specs.Prelude.{◌≡◌, IfOk, OnOk};
-ghost use Rattle.json_fields.specs.Encoding.{felt_json, whole_json};
+ghost use Rattle.std.specs.Prelude.{◌≡◌, map, IfOk, OnOk};
+ghost use Rattle.json_fields.specs.Encoding.{felt_json, whole_json, list_json, pair_json};
+ghost use Rattle.public_input.specs.declared.fault.PublicKey.{PublicKey};
 ghost use Rattle.public_input.specs.Statement.{statement};
 ghost use Rattle.public_input.specs.Valid.{IsValid};
 ghost use Rattle.public_input.specs.Spelling.{SpellsPublic};
@@ -9,7 +10,7 @@ ghost use Rattle.public_input.specs.Written.{written};
 ghost use Rattle.public_input.specs.Parts.{WritesMember, WritesTokens, register_tokens, number_tokens};
 
 use crate::{Public, PublicKey};
-use goldilocks::Felt;
+use goldilocks::{Felt, Pair};
 use json::Writer;
 use json_fields::{write_felt, write_pairs};
 use std::alloc::{AllocError, Global};
@@ -38,8 +39,7 @@ fn write_registers_and_cells(alloc: Global, out: &mut Writer, p: &Public) -> Res
 {
     write_felt_under(alloc, out, PublicKey::ApFirst, p.ap_first)?;
     write_felt_under(alloc, out, PublicKey::ApLast, p.ap_last)?;
-    out.key(PublicKey::Cells.name())?;
-    write_pairs(alloc, out, &p.cells)
+    write_cells(alloc, out, &p.cells)
 }
 
 /// Writes the members from `range_begin` to `steps`.
@@ -51,6 +51,14 @@ fn write_numbers(alloc: Global, out: &mut Writer, p: &Public) -> Result<(), Allo
     write_whole_under(out, PublicKey::RcMax, p.rc_max)?;
     write_whole_under(out, PublicKey::RcMin, p.rc_min)?;
     write_whole_under(out, PublicKey::Steps, p.steps)
+}
+
+/// Writes the public cells under their key.
+fn write_cells(alloc: Global, out: &mut Writer, cells: &[Pair]) -> Result<(), AllocError>
+    ensures { OnOk result (WritesMember out.old out.new PublicKey.Cells (list_json (map pair_json cells.now))) }
+{
+    out.key(PublicKey::Cells.name())?;
+    write_pairs(alloc, out, cells)
 }
 
 /// Writes a key with the text of a field value.
