@@ -1,21 +1,19 @@
 //! `asm`: texts from outside, and their faults.
 
+use super::contents::Bytes::{Long, Repeated};
 use super::loop_of_twenty::{PROGRAM as LOOP_OF_TWENTY_PROGRAM, TEXT as LOOP_OF_TWENTY_TEXT};
 use super::one_return::RET;
 use super::vectors::{
     FOUR_STEPS_PROGRAM, JUMP_NOT_TAKEN_PROGRAM, JUMP_NOT_TAKEN_TEXT, JUMP_TAKEN_PROGRAM,
     JUMP_TAKEN_TEXT, OUTPUT_CELL_PROGRAM, OUTPUT_CELL_TEXT, RANGE_CELL_PROGRAM, RANGE_CELL_TEXT,
 };
-use super::{check_call, store_of};
-use cairo_commands::Status::{self, Done, Input, Limit};
-use std::alloc::{AllocError, Global};
-use std::process::Abort;
-use std::test::Fail;
+use super::{Row, Written, check_rows, check_written};
+use cairo_commands::Status::{Done, Input, Limit};
 
 pub const ASM: &[&str] = &["asm", "X", "P"];
 
 /// Texts, what `asm` answers of them, and the program file that it writes, if it writes one.
-const TEXTS: &[(&str, Status, &str, Option<&str>)] = &[
+const TEXTS: &[Written] = &[
     ("%start 0\n%end 0\nret\n", Done, "asm: 1 words\n", Some(RET)),
     (
         "%start main\n%end stop\nmain: ap += 0;\ncall f\nstop:\njmp stop\nf: [ap] = 25, ap++;\nret\n",
@@ -81,43 +79,32 @@ const TEXTS: &[(&str, Status, &str, Option<&str>)] = &[
 ];
 
 #[test]
-fn texts_are_assembled(rt: HostRuntime) -> Result<(), Fail> {
-    let alloc = rt.alloc();
-    for (text, status, line, program) in TEXTS {
-        let mut store = store_of(alloc, &[("X", text.as_bytes()), ("Y", b"kept")], &[])?;
-        check_call(&rt, alloc, text, ASM, &mut store, (*status, line))?;
-        let left = store.file("P") == program.map(str::as_bytes)
-            && store.file("X") == Some(text.as_bytes())
-            && store.file("Y") == Some(b"kept".as_slice());
-        assert!(rt; left, "{text}: the files");
-    }
-    Ok(())
+fn texts_are_assembled(rt: HostRuntime) {
+    check_written(&rt, rt.alloc(), ASM, ("X", "P"), TEXTS);
 }
 
-/// What `asm` answers of a text: an end, and then so many lines `dw 0`.
-fn check_words(
-    rt: &impl Abort,
-    alloc: Global,
-    words: usize,
-    wanted: (Status, &str),
-) -> Result<(), AllocError> {
-    let mut text = Vec::from_slice(alloc, b"%end 0\n")?;
-    for _ in 0..words {
-        text.extend_from_slice(b"dw 0\n")?;
-    }
-    let mut store = store_of(alloc, &[("X", &text)], &[])?;
-    let row = format!(in alloc; "{words} words")?;
-    check_call(rt, alloc, &row, ASM, &mut store, wanted)
-}
+const LIMITS: &[Row] = &[
+    (
+        "2^18 words",
+        &[Repeated("%end 0\n", "dw 0\n", 262144, "")],
+        Done,
+        "asm: 262144 words\n",
+    ),
+    (
+        "one word more",
+        &[Repeated("%end 0\n", "dw 0\n", 262145, "")],
+        Limit,
+        "limit: input 1\n",
+    ),
+    (
+        "a long text",
+        &[Long(b' ', 16777217)],
+        Limit,
+        "limit: input 1\n",
+    ),
+];
 
 #[test]
-fn limits_of_texts_are_kept(rt: HostRuntime) -> Result<(), Fail> {
-    let alloc = rt.alloc();
-    let limit = (Limit, "limit: input 1\n");
-    check_words(&rt, alloc, 262144, (Done, "asm: 262144 words\n"))?;
-    check_words(&rt, alloc, 262145, limit)?;
-    let long = vec![in alloc; b' '; 16777217]?;
-    let mut store = store_of(alloc, &[("X", &long)], &[])?;
-    check_call(&rt, alloc, "a long text", ASM, &mut store, limit)?;
-    Ok(())
+fn limits_of_texts_are_kept(rt: HostRuntime) {
+    check_rows(&rt, rt.alloc(), ASM, LIMITS);
 }

@@ -1,21 +1,19 @@
 //! `dis`: programs from outside, and their faults.
 
+use super::contents::Bytes::{Long, Repeated};
 use super::loop_of_twenty::{PROGRAM as LOOP_OF_TWENTY_PROGRAM, TEXT as LOOP_OF_TWENTY_TEXT};
 use super::one_return::RET;
 use super::vectors::{
     JUMP_NOT_TAKEN_PROGRAM, JUMP_NOT_TAKEN_TEXT, JUMP_TAKEN_PROGRAM, JUMP_TAKEN_TEXT,
     OUTPUT_CELL_PROGRAM, OUTPUT_CELL_TEXT, RANGE_CELL_PROGRAM, RANGE_CELL_TEXT,
 };
-use super::{check_call, store_of};
-use cairo_commands::Status::{self, Done, Input, Limit};
-use std::alloc::{AllocError, Global};
-use std::process::Abort;
-use std::test::Fail;
+use super::{Row, Written, check_rows, check_written};
+use cairo_commands::Status::{Done, Input, Limit};
 
 pub const DIS: &[&str] = &["dis", "P", "X"];
 
 /// Program files, what `dis` answers of them, and the text that it writes, if it writes one.
-const PROGRAMS: &[(&str, Status, &str, Option<&str>)] = &[
+const PROGRAMS: &[Written] = &[
     (RET, Done, "dis: 1 words\n", Some("%start 0\n%end 0\nret\n")),
     (
         r#"{"builtins":[],"data":["0x480680017fff8000"],"end":0,"prime":"0xffffffff00000001","start":0}"#,
@@ -89,50 +87,39 @@ const PROGRAMS: &[(&str, Status, &str, Option<&str>)] = &[
 ];
 
 #[test]
-fn programs_are_shown(rt: HostRuntime) -> Result<(), Fail> {
-    let alloc = rt.alloc();
-    for (program, status, line, text) in PROGRAMS {
-        let mut store = store_of(alloc, &[("P", program.as_bytes())], &[])?;
-        check_call(&rt, alloc, program, DIS, &mut store, (*status, line))?;
-        let left = store.file("X") == text.map(str::as_bytes)
-            && store.file("P") == Some(program.as_bytes());
-        assert!(rt; left, "{program}: the files");
-    }
-    Ok(())
+fn programs_are_shown(rt: HostRuntime) {
+    check_written(&rt, rt.alloc(), DIS, ("P", "X"), PROGRAMS);
 }
 
-/// A program of so many words 0, at least one.
-fn zero_words(alloc: Global, count: usize) -> Result<Vec<u8>, AllocError> {
-    let front = br#"{"prime":"0xffffffff00000001","start":0,"end":0,"builtins":[],"data":["0x0""#;
-    let mut bytes = Vec::from_slice(alloc, front)?;
-    for _ in 1..count {
-        bytes.extend_from_slice(b",\"0x0\"")?;
-    }
-    bytes.extend_from_slice(b"]}")?;
-    Ok(bytes)
-}
+/// A program of many words 0, up to the first one.
+const FIRST_WORD: &str =
+    r#"{"prime":"0xffffffff00000001","start":0,"end":0,"builtins":[],"data":["0x0""#;
 
-/// What `dis` answers of a program of so many words.
-fn check_words(
-    rt: &impl Abort,
-    alloc: Global,
-    words: usize,
-    wanted: (Status, &str),
-) -> Result<(), AllocError> {
-    let program = zero_words(alloc, words)?;
-    let mut store = store_of(alloc, &[("P", &program)], &[])?;
-    let row = format!(in alloc; "{words} words")?;
-    check_call(rt, alloc, &row, DIS, &mut store, wanted)
-}
+/// A word more.
+const ONE_MORE: &str = r#","0x0""#;
+
+const LIMITS: &[Row] = &[
+    (
+        "2^18 words",
+        &[Repeated(FIRST_WORD, ONE_MORE, 262143, "]}")],
+        Done,
+        "dis: 262144 words\n",
+    ),
+    (
+        "one word more",
+        &[Repeated(FIRST_WORD, ONE_MORE, 262144, "]}")],
+        Limit,
+        "limit: input 1\n",
+    ),
+    (
+        "a long program",
+        &[Long(b' ', 16777217)],
+        Limit,
+        "limit: input 1\n",
+    ),
+];
 
 #[test]
-fn limits_of_programs_are_kept(rt: HostRuntime) -> Result<(), Fail> {
-    let alloc = rt.alloc();
-    let limit = (Limit, "limit: input 1\n");
-    check_words(&rt, alloc, 262144, (Done, "dis: 262144 words\n"))?;
-    check_words(&rt, alloc, 262145, limit)?;
-    let long = vec![in alloc; b' '; 16777217]?;
-    let mut store = store_of(alloc, &[("P", &long)], &[])?;
-    check_call(&rt, alloc, "a long program", DIS, &mut store, limit)?;
-    Ok(())
+fn limits_of_programs_are_kept(rt: HostRuntime) {
+    check_rows(&rt, rt.alloc(), DIS, LIMITS);
 }

@@ -2,15 +2,19 @@
 
 ghost use Rattle.std.specs.Prelude.{None};
 
-use super::{MEMORY, TRACE, WALK, bytes_of, check_call, status_of, store_of};
+use super::contents::Bytes;
+use super::{
+    Fault, MEMORY, TRACE, WALK, check_answer, check_call, check_failing_sink, check_faults,
+    files_of, sink_of, status_of, store_of,
+};
 use cairo_commands::Status;
 use cairo_commands::Status::{Done, Input};
-use file_port::{MemorySink, MemoryStore, PortError, Sink, Store, SureSink, SureStore};
-use std::alloc::{AllocError, Global};
-use std::test::Fail;
+use file_port::{MemoryStore, PortError, Sink, Store, SureSink, SureStore};
+use std::alloc::Global;
+use std::process::Abort;
 
 /// The calls of the store that fail, and what is answered over a run's files.
-const FAULTS: &[(&str, &[u32], Status, &str)] = &[
+const FAULTS: &[Fault] = &[
     (
         "beginning the trace",
         &[1],
@@ -46,17 +50,12 @@ const FAULTS: &[(&str, &[u32], Status, &str)] = &[
     ("three calls", &[6, 3, 5], Status::Store, "store fault: T\n"),
 ];
 
+/// A run's files.
+const RUN: &[Bytes] = &[Bytes::Numbers(TRACE), Bytes::Numbers(MEMORY)];
+
 #[test]
-fn faults_are_told(rt: HostRuntime) -> Result<(), Fail> {
-    let alloc = rt.alloc();
-    let trace = bytes_of(alloc, TRACE)?;
-    let memory = bytes_of(alloc, MEMORY)?;
-    let files: [(&str, &[u8]); 2] = [("T", &trace), ("M", &memory)];
-    for (row, fails, status, line) in FAULTS {
-        let mut store = store_of(alloc, &files, fails)?;
-        check_call(&rt, alloc, row, WALK, &mut store, (*status, line))?;
-    }
-    Ok(())
+fn faults_are_told(rt: HostRuntime) {
+    check_faults(&rt, rt.alloc(), WALK, RUN, FAULTS);
 }
 
 /// A store that hands out one byte at a time of what another one has.
@@ -85,7 +84,7 @@ impl Store for Bytewise {
 }
 
 /// The calls that fail of a store that hands out one byte at a time, and what is answered over a run's files.
-const BYTEWISE_FAULTS: &[(&str, &[u32], Status, &str)] = &[
+const BYTEWISE_FAULTS: &[Fault] = &[
     ("no call", &[], Done, "walk: 4 steps\n"),
     (
         "beginning the trace",
@@ -121,50 +120,37 @@ const BYTEWISE_FAULTS: &[(&str, &[u32], Status, &str)] = &[
     ("a call that is not made", &[349], Done, "walk: 4 steps\n"),
 ];
 
-#[test]
-fn files_are_read_in_any_pieces(rt: HostRuntime) -> Result<(), Fail> {
-    let alloc = rt.alloc();
-    let trace = bytes_of(alloc, TRACE)?;
-    let mut memory = bytes_of(alloc, MEMORY)?;
-    let files: [(&str, &[u8]); 2] = [("T", &trace), ("M", &memory)];
-    for (row, fails, status, line) in BYTEWISE_FAULTS {
-        let store = store_of(alloc, &files, fails)?;
+/// Calls `walk` over a store that hands out one byte at a time.
+fn check_bytewise(rt: &impl Abort, alloc: Global, files: &[Bytes], rows: &[Fault]) {
+    for (row, fails, status, line) in rows {
+        let store = store_of(rt, alloc, WALK, files, fails);
         let mut store = Bytewise { store };
-        check_call(&rt, alloc, row, WALK, &mut store, (*status, line))?;
+        check_call(rt, alloc, row, WALK, &mut store, (*status, line));
     }
-    memory.truncate(223);
-    let store = store_of(alloc, &[("T", &trace), ("M", &memory)], &[])?;
-    let mut store = Bytewise { store };
-    let row = "a memory with a byte cut";
-    check_call(
-        &rt,
-        alloc,
-        row,
-        WALK,
-        &mut store,
-        (Input, "input 2: Length\n"),
-    )?;
-    Ok(())
 }
 
-/// A store without faults that has a run's files.
-fn sure_store(alloc: Global) -> Result<SureStore, AllocError> {
-    let trace = bytes_of(alloc, TRACE)?;
-    let memory = bytes_of(alloc, MEMORY)?;
-    let mut files = Vec::new(alloc);
-    files.push((String::from_str(alloc, "T")?, trace))?;
-    files.push((String::from_str(alloc, "M")?, memory))?;
-    Ok(SureStore::new(files))
+/// A run's files, of which the second one lacks a byte.
+const CUT: &[Bytes] = &[Bytes::Numbers(TRACE), Bytes::First(MEMORY, 223)];
+
+const CUT_FAULTS: &[Fault] = &[("a memory with a byte cut", &[], Input, "input 2: Length\n")];
+
+#[test]
+fn files_are_read_in_any_pieces(rt: HostRuntime) {
+    check_bytewise(&rt, rt.alloc(), RUN, BYTEWISE_FAULTS);
+    check_bytewise(&rt, rt.alloc(), CUT, CUT_FAULTS);
 }
 
 #[test]
-fn a_store_and_a_sink_without_faults_answer(rt: HostRuntime) -> Result<(), Fail> {
-    let alloc = rt.alloc();
-    let mut store = sure_store(alloc)?;
-    let mut sink = SureSink::new(alloc);
-    assert_eq!(rt; status_of(alloc, WALK, &mut store, &mut sink)?, Done);
-    assert_eq!(rt; sink.bytes(), b"walk: 4 steps\n".as_slice());
-    Ok(())
+fn a_store_and_a_sink_without_faults_answer(rt: HostRuntime) {
+    let mut store = SureStore::new(files_of(&rt, rt.alloc(), WALK, RUN));
+    let mut sink = SureSink::new(rt.alloc());
+    let status = status_of(&rt, rt.alloc(), WALK, &mut store, &mut sink);
+    check_answer(
+        &rt,
+        "sure",
+        (status, sink.bytes()),
+        (Done, "walk: 4 steps\n"),
+    );
 }
 
 /// A sink that writes half of what it is given and then answers an error.
@@ -184,34 +170,56 @@ impl Sink for Halfway {
     }
 }
 
+/// The calls of the store that fail, and half of the line: of `walk: 4 steps`, and of `store fault: M`.
+const HALVES: &[(&[u32], &str)] = &[(&[0], "walk: 4"), (&[4], "store f")];
+
 #[test]
-fn faults_of_the_sink_end_the_call(rt: HostRuntime) -> Result<(), Fail> {
-    let alloc = rt.alloc();
-    let trace = bytes_of(alloc, TRACE)?;
-    let memory = bytes_of(alloc, MEMORY)?;
-    let files: [(&str, &[u8]); 2] = [("T", &trace), ("M", &memory)];
-    // What is to be printed is `walk: 4 steps`, or `store fault: M`.
-    for (fails, half) in [([0], "walk: 4"), ([4], "store f")] {
-        let mut store = store_of(alloc, &files, &fails)?;
+fn faults_of_the_sink_end_the_call(rt: HostRuntime) {
+    for (fails, half) in HALVES {
         let mut sink = Halfway {
-            bytes: Vec::new(alloc),
+            bytes: Vec::new(rt.alloc()),
             faults: 0,
         };
-        let status = status_of(alloc, WALK, &mut store, &mut sink)?;
-        assert_eq!(rt; status, Status::Sink, "half of {half}");
-        assert_eq!(rt; sink.bytes.as_slice(), half.as_bytes(), "half of {half}");
-        let mut store = store_of(alloc, &files, &fails)?;
-        let mut sink = MemorySink::new(alloc, Vec::from_slice(alloc, &[1])?);
-        let status = status_of(alloc, WALK, &mut store, &mut sink)?;
-        assert_eq!(rt; status, Status::Sink, "nothing of {half}");
-        assert_eq!(rt; sink.bytes(), b"".as_slice(), "nothing of {half}");
+        let status = status_of(
+            &rt,
+            rt.alloc(),
+            WALK,
+            &mut store_of(&rt, rt.alloc(), WALK, RUN, fails),
+            &mut sink,
+        );
+        check_answer(
+            &rt,
+            half,
+            (status, sink.bytes.as_slice()),
+            (Status::Sink, half),
+        );
+        check_failing_sink(
+            &rt,
+            rt.alloc(),
+            half,
+            WALK,
+            &mut store_of(&rt, rt.alloc(), WALK, RUN, fails),
+        );
     }
-    // The line is one call of the sink: a second one would fail.
-    let mut store = store_of(alloc, &files, &[])?;
-    let mut sink = MemorySink::new(alloc, Vec::from_slice(alloc, &[2])?);
-    assert_eq!(rt; status_of(alloc, WALK, &mut store, &mut sink)?, Done);
-    assert_eq!(rt; sink.bytes(), b"walk: 4 steps\n".as_slice());
-    Ok(())
+}
+
+/// The line is one call of the sink: a second one would fail.
+#[test]
+fn the_line_is_one_call(rt: HostRuntime) {
+    let mut sink = sink_of(&rt, rt.alloc(), &[2]);
+    let status = status_of(
+        &rt,
+        rt.alloc(),
+        WALK,
+        &mut store_of(&rt, rt.alloc(), WALK, RUN, &[]),
+        &mut sink,
+    );
+    check_answer(
+        &rt,
+        "one call",
+        (status, sink.bytes()),
+        (Done, "walk: 4 steps\n"),
+    );
 }
 
 /// A store and a sink that find no memory.
@@ -245,14 +253,16 @@ impl Sink for NoMemory {
 }
 
 #[test]
-fn want_of_memory_ends_the_call(rt: HostRuntime) -> Result<(), Fail> {
-    let alloc = rt.alloc();
+fn want_of_memory_ends_the_call(rt: HostRuntime) {
     // Nothing is put, so a sink that would fail doesn't.
-    let mut failing = MemorySink::new(alloc, Vec::from_slice(alloc, &[1])?);
-    let status = status_of(alloc, WALK, &mut NoMemory, &mut failing)?;
-    assert_eq!(rt; status, Status::Memory, "no memory for a file");
-    assert_eq!(rt; failing.bytes(), b"".as_slice());
-    let status = status_of(alloc, &["walk"], &mut NoMemory, &mut NoMemory)?;
-    assert_eq!(rt; status, Status::Memory, "no memory for the line");
-    Ok(())
+    let mut failing = sink_of(&rt, rt.alloc(), &[1]);
+    let status = status_of(&rt, rt.alloc(), WALK, &mut NoMemory, &mut failing);
+    check_answer(
+        &rt,
+        "for a file",
+        (status, failing.bytes()),
+        (Status::Memory, ""),
+    );
+    let status = status_of(&rt, rt.alloc(), &["walk"], &mut NoMemory, &mut NoMemory);
+    check_answer(&rt, "for the line", (status, &[]), (Status::Memory, ""));
 }

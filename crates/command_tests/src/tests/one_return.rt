@@ -1,12 +1,10 @@
 //! `asm` and `dis` over the text X and the program P of one `ret`: calls of the store and the sink that fail.
 
 use super::asm::ASM;
+use super::contents::Bytes;
 use super::dis::DIS;
-use super::{check_call, status_of, store_of};
-use cairo_commands::Status::{self, Done, Missing, Sink, Store as StoreFault};
-use file_port::{MemorySink, MemoryStore};
-use std::alloc::{AllocError, Global};
-use std::test::Fail;
+use super::{check_call, check_failing_sink, check_file, store_of};
+use cairo_commands::Status::{self, Done, Missing, Store as StoreFault};
 
 /// The program of one `ret`, as a program file.
 pub const RET: &str =
@@ -15,10 +13,8 @@ pub const RET: &str =
 /// A text of that program.
 const RET_TEXT: &[u8] = b"%end 0\nret";
 
-/// A store of both files, of which the listed calls fail.
-fn ret_store(alloc: Global, fails: &[u32]) -> Result<MemoryStore, AllocError> {
-    store_of(alloc, &[("X", RET_TEXT), ("P", RET.as_bytes())], fails)
-}
+/// The text and the program.
+const RET_FILES: &[Bytes] = &[Bytes::Raw(RET_TEXT), Bytes::Text(RET)];
 
 /// Calls of the store that fail, and what is answered.
 const FAULTS: &[(&[&str], &[u32], Status, &str)] = &[
@@ -37,21 +33,19 @@ const FAULTS: &[(&[&str], &[u32], Status, &str)] = &[
 
 /// No file changes, but by the call that is done, which writes what was there.
 #[test]
-fn failing_calls_are_told(rt: HostRuntime) -> Result<(), Fail> {
-    let alloc = rt.alloc();
+fn failing_calls_are_told(rt: HostRuntime) {
     for (words, fails, status, line) in FAULTS {
-        let mut store = ret_store(alloc, fails)?;
-        check_call(&rt, alloc, line, words, &mut store, (*status, line))?;
-        let stay = store.file("X") == Some(RET_TEXT) && store.file("P") == Some(RET.as_bytes());
-        assert!(rt; stay, "{line}: the files");
+        let mut store = store_of(&rt, rt.alloc(), ASM, RET_FILES, fails);
+        check_call(&rt, rt.alloc(), line, words, &mut store, (*status, line));
+        check_file(&rt, line, &store, "X", Some(RET_TEXT));
+        check_file(&rt, line, &store, "P", Some(RET.as_bytes()));
     }
-    let mut store = ret_store(alloc, &[])?;
-    let mut sink = MemorySink::new(alloc, Vec::from_slice(alloc, &[1])?);
-    assert_eq!(rt; status_of(alloc, DIS, &mut store, &mut sink)?, Sink);
-    let written = Some(b"%start 0\n%end 0\nret\n".as_slice());
-    assert!(rt;
-        store.file("X") == written,
-        "a failing sink: the text is written"
-    );
-    Ok(())
+}
+
+#[test]
+fn a_failing_sink_comes_after_the_text(rt: HostRuntime) {
+    let mut store = store_of(&rt, rt.alloc(), ASM, RET_FILES, &[]);
+    check_failing_sink(&rt, rt.alloc(), "a failing sink", DIS, &mut store);
+    let written = b"%start 0\n%end 0\nret\n";
+    check_file(&rt, "a failing sink", &store, "X", Some(written));
 }

@@ -1,33 +1,34 @@
 //! `tables`: runs from outside, what stands in the way of tables, and what a failed call leaves.
 
-use super::check::{END_5, START_1};
+use super::check::{END_5, P, START_1, U};
+use super::contents::Bytes::{
+    Absent, But, Long, Member, Memory, Numbers, Parts, Raw, Tables, Text,
+};
+use super::contents::{Bytes, Cell, Change, Part, said};
 use super::vectors::{
     FOUR_STEPS, FOUR_STEPS_PROGRAM, FOUR_STEPS_PUBLIC, JUMP_NOT_TAKEN, JUMP_NOT_TAKEN_MEMORY,
     JUMP_NOT_TAKEN_PROGRAM, JUMP_NOT_TAKEN_PUBLIC, JUMP_NOT_TAKEN_TRACE, JUMP_TAKEN,
     JUMP_TAKEN_MEMORY, JUMP_TAKEN_PROGRAM, JUMP_TAKEN_PUBLIC, JUMP_TAKEN_TRACE, OUTPUT_CELL,
-    OUTPUT_CELL_MEMORY, OUTPUT_CELL_PROGRAM, OUTPUT_CELL_PUBLIC, OUTPUT_CELL_TRACE, Part,
-    RANGE_CELL, RANGE_CELL_MEMORY, RANGE_CELL_PROGRAM, RANGE_CELL_PUBLIC, RANGE_CELL_TRACE,
-    wide_bytes,
+    OUTPUT_CELL_MEMORY, OUTPUT_CELL_PROGRAM, OUTPUT_CELL_PUBLIC, OUTPUT_CELL_TRACE, RANGE_CELL,
+    RANGE_CELL_MEMORY, RANGE_CELL_PROGRAM, RANGE_CELL_PUBLIC, RANGE_CELL_TRACE,
 };
-use super::{MEMORY, TRACE, bytes_of, check_call, status_of, store_of, with_number};
-use cairo_commands::Status::{
-    self, Done, Input, Limit, Missing, Refused, Sink, Store as StoreFault,
-};
-use file_port::{MemorySink, MemoryStore};
-use std::alloc::{AllocError, Global};
+use super::{MEMORY, Row, TRACE, check_call, check_failing_sink, check_file, store_of};
+use cairo_commands::Status::{self, Done, Input, Limit, Missing, Refused, Store as StoreFault};
+use file_port::MemoryStore;
+use std::alloc::Global;
 use std::process::Abort;
-use std::test::Fail;
 
-const TABLES: &[&str] = &["tables", "P", "U", "T", "M", "O"];
+const BUILD: &[&str] = &["tables", "P", "U", "T", "M", "O"];
 
-/// A run: its name, program, public input, states, cells and tables, and the lines of `tables` and `check`.
+/// Checks the tables that were built.
+const CHECK_BUILT: &[&str] = &["check", "P", "U", "O"];
+
+/// A run: its name, the program, the public input, the trace and the memory, then the tables, and the lines of `tables`
+/// and `check`.
 type Run = (
     &'static str,
-    &'static str,
-    &'static str,
-    &'static [u64],
-    &'static [u64],
-    &'static [Part],
+    &'static [Bytes],
+    Bytes,
     &'static str,
     &'static str,
 );
@@ -35,150 +36,94 @@ type Run = (
 const RUNS: &[Run] = &[
     (
         "four steps",
-        FOUR_STEPS_PROGRAM,
-        FOUR_STEPS_PUBLIC,
-        TRACE,
-        MEMORY,
-        &[Part::Numbers(FOUR_STEPS)],
+        &[
+            Text(FOUR_STEPS_PROGRAM),
+            Text(FOUR_STEPS_PUBLIC),
+            Numbers(TRACE),
+            Numbers(MEMORY),
+        ],
+        Tables(FOUR_STEPS, Change::None),
         "tables: 4 steps, 1656 bytes\n",
         "check: accepted, 4 steps\n",
     ),
     (
         "a jump that is taken",
-        JUMP_TAKEN_PROGRAM,
-        JUMP_TAKEN_PUBLIC,
-        JUMP_TAKEN_TRACE,
-        JUMP_TAKEN_MEMORY,
-        &[Part::Numbers(JUMP_TAKEN)],
+        &[
+            Text(JUMP_TAKEN_PROGRAM),
+            Text(JUMP_TAKEN_PUBLIC),
+            Numbers(JUMP_TAKEN_TRACE),
+            Numbers(JUMP_TAKEN_MEMORY),
+        ],
+        Tables(JUMP_TAKEN, Change::None),
         "tables: 2 steps, 936 bytes\n",
         "check: accepted, 2 steps\n",
     ),
     (
         "a jump that isn't taken",
-        JUMP_NOT_TAKEN_PROGRAM,
-        JUMP_NOT_TAKEN_PUBLIC,
-        JUMP_NOT_TAKEN_TRACE,
-        JUMP_NOT_TAKEN_MEMORY,
-        &[Part::Numbers(JUMP_NOT_TAKEN)],
+        &[
+            Text(JUMP_NOT_TAKEN_PROGRAM),
+            Text(JUMP_NOT_TAKEN_PUBLIC),
+            Numbers(JUMP_NOT_TAKEN_TRACE),
+            Numbers(JUMP_NOT_TAKEN_MEMORY),
+        ],
+        Tables(JUMP_NOT_TAKEN, Change::None),
         "tables: 2 steps, 936 bytes\n",
         "check: accepted, 2 steps\n",
     ),
     (
         "a range cell",
-        RANGE_CELL_PROGRAM,
-        RANGE_CELL_PUBLIC,
-        RANGE_CELL_TRACE,
-        RANGE_CELL_MEMORY,
-        RANGE_CELL,
+        &[
+            Text(RANGE_CELL_PROGRAM),
+            Text(RANGE_CELL_PUBLIC),
+            Numbers(RANGE_CELL_TRACE),
+            Numbers(RANGE_CELL_MEMORY),
+        ],
+        Parts(RANGE_CELL),
         "tables: 3 steps, 525616 bytes\n",
         "check: accepted, 3 steps\n",
     ),
     (
         "an output cell",
-        OUTPUT_CELL_PROGRAM,
-        OUTPUT_CELL_PUBLIC,
-        OUTPUT_CELL_TRACE,
-        OUTPUT_CELL_MEMORY,
-        &[Part::Numbers(OUTPUT_CELL)],
+        &[
+            Text(OUTPUT_CELL_PROGRAM),
+            Text(OUTPUT_CELL_PUBLIC),
+            Numbers(OUTPUT_CELL_TRACE),
+            Numbers(OUTPUT_CELL_MEMORY),
+        ],
+        Tables(OUTPUT_CELL, Change::None),
         "tables: 4 steps, 1704 bytes\n",
         "check: accepted, 4 steps\n",
     ),
 ];
 
-/// Builds the tables of the files, which have to be those that are wanted, and has them checked.
+/// Looks at the files, which are these.
+fn check_stay(rt: &impl Abort, alloc: Global, row: &str, store: &MemoryStore, files: &[Bytes]) {
+    for (name, bytes) in BUILD.iter().skip(1).zip(files) {
+        check_file(rt, row, store, name, Some(&said(rt, alloc, *bytes)));
+    }
+}
+
+/// Builds tables of a run's files, which stay. The tables have to be those that are wanted, and are checked.
 fn check_built(
     rt: &impl Abort,
     alloc: Global,
     row: &str,
-    files: &[(&str, &[u8])],
-    tables: &[u8],
+    files: &[Bytes],
+    tables: Bytes,
     lines: (&str, &str),
-) -> Result<(), AllocError> {
-    let mut store = store_of(alloc, files, &[])?;
-    check_call(rt, alloc, row, TABLES, &mut store, (Done, lines.0))?;
-    assert!(rt; store.file("O") == Some(tables), "{row}: the tables");
-    for (name, bytes) in files {
-        assert!(rt; store.file(name) == Some(*bytes), "{row}: {name} stays");
-    }
-    let words = ["check", "P", "U", "O"];
-    check_call(rt, alloc, row, &words, &mut store, (Done, lines.1))
+) {
+    let mut store = store_of(rt, alloc, BUILD, files, &[]);
+    check_call(rt, alloc, row, BUILD, &mut store, (Done, lines.0));
+    check_stay(rt, alloc, row, &store, files);
+    check_file(rt, row, &store, "O", Some(&said(rt, alloc, tables)));
+    check_call(rt, alloc, row, CHECK_BUILT, &mut store, (Done, lines.1));
 }
 
 #[test]
-fn runs_have_their_tables(rt: HostRuntime) -> Result<(), Fail> {
-    let alloc = rt.alloc();
-    for (row, program, public, trace, memory, parts, line, accepted) in RUNS {
-        let trace = bytes_of(alloc, trace)?;
-        let memory = bytes_of(alloc, memory)?;
-        let tables = wide_bytes(alloc, parts)?;
-        let files: [(&str, &[u8]); 4] = [
-            ("P", program.as_bytes()),
-            ("U", public.as_bytes()),
-            ("T", &trace),
-            ("M", &memory),
-        ];
-        check_built(&rt, alloc, row, &files, &tables, (line, accepted))?;
+fn runs_have_their_tables(rt: HostRuntime) {
+    for (row, files, tables, line, accepted) in RUNS {
+        check_built(&rt, rt.alloc(), row, files, *tables, (line, accepted));
     }
-    Ok(())
-}
-
-/// The public input of the four steps, with these members behind its own. Of equal keys the last one counts.
-fn public_with(alloc: Global, members: &str) -> Result<Vec<u8>, AllocError> {
-    let mut public = Vec::from_slice(alloc, FOUR_STEPS_PUBLIC.as_bytes())?;
-    if !members.is_empty() {
-        public.pop();
-        public.push(b',')?;
-        public.extend_from_slice(members.as_bytes())?;
-        public.push(b'}')?;
-    }
-    Ok(public)
-}
-
-/// The trace of the four steps with another number at a place, if there is one.
-fn trace_with(alloc: Global, change: Option<(usize, u64)>) -> Result<Vec<u8>, AllocError> {
-    match change {
-        Some((place, number)) => {
-            let numbers = with_number(alloc, TRACE, place, number)?;
-            bytes_of(alloc, &numbers)
-        }
-        None => bytes_of(alloc, TRACE),
-    }
-}
-
-/// An address, and the value that its cell has, or `None` where there is no cell.
-type Cell = (u64, Option<u64>);
-
-/// The addresses that memories are looked at here: those of the four steps up to 14, and others.
-const ADDRESSES: [u64; 18] = [
-    1, 2, 3, 4, 5, 6, 7, 8, 9, 10, 11, 12, 13, 14, 15, 16, 17, 2097168,
-];
-
-/// The value at an address of the four steps.
-fn value_of_steps(address: u64) -> Option<u64> {
-    let cell = MEMORY
-        .chunks_exact(2)
-        .find(|cell| cell.first() == Some(&address))?;
-    cell.get(1).copied()
-}
-
-/// The value at an address of the four steps, after the changes.
-fn value_at(address: u64, changes: &[Cell]) -> Option<u64> {
-    match changes.iter().find(|change| change.0 == address) {
-        Some(change) => change.1,
-        None => value_of_steps(address),
-    }
-}
-
-/// The memory of the four steps with these changes.
-fn memory_with(alloc: Global, changes: &[Cell]) -> Result<Vec<u8>, AllocError> {
-    let mut bytes = Vec::new(alloc);
-    for address in ADDRESSES {
-        if let Some(value) = value_at(address, changes) {
-            bytes.extend_from_slice(&address.to_le_bytes())?;
-            bytes.extend_from_slice(&value.to_le_bytes())?;
-        }
-    }
-    Ok(bytes)
 }
 
 /// A row's name, what is another than in the four steps, and the line. Others are the program, a member of the public
@@ -487,195 +432,254 @@ const REFUSED: &[Changed] = &[
     ),
 ];
 
-#[test]
-fn what_stands_in_the_way_is_told(rt: HostRuntime) -> Result<(), Fail> {
-    let alloc = rt.alloc();
-    for (row, program, members, change, cells, line) in REFUSED {
-        let public = public_with(alloc, members)?;
-        let trace = trace_with(alloc, *change)?;
-        let memory = memory_with(alloc, cells)?;
-        let files: [(&str, &[u8]); 5] = [
-            ("P", program.as_bytes()),
-            ("U", &public),
-            ("T", &trace),
-            ("M", &memory),
-            ("O", b"before"),
-        ];
-        let mut store = store_of(alloc, &files, &[])?;
-        check_call(&rt, alloc, row, TABLES, &mut store, (Refused, line))?;
-        for (name, bytes) in files {
-            assert!(rt; store.file(name) == Some(bytes), "{row}: {name} stays");
-        }
+/// The public input of the four steps, with these members behind its own.
+fn public_with(members: &'static str) -> Bytes {
+    if members.is_empty() {
+        U
+    } else {
+        Member(members)
     }
-    Ok(())
+}
+
+/// The trace of the four steps with another number at a place, if there is one.
+fn trace_with(change: Option<(usize, u64)>) -> Bytes {
+    match change {
+        Some((place, number)) => But(TRACE, place, number),
+        None => Numbers(TRACE),
+    }
+}
+
+#[test]
+fn what_stands_in_the_way_is_told(rt: HostRuntime) {
+    for (row, program, members, change, cells, line) in REFUSED {
+        let files = [
+            Text(program),
+            public_with(members),
+            trace_with(*change),
+            Memory(cells),
+            Raw(b"before"),
+        ];
+        let mut store = store_of(&rt, rt.alloc(), BUILD, &files, &[]);
+        check_call(&rt, rt.alloc(), row, BUILD, &mut store, (Refused, line));
+        check_stay(&rt, rt.alloc(), row, &store, &files);
+    }
 }
 
 /// The tables of the four steps with a public cell at 17. The fillers are what the memory has at 15 and 16: nothing, and 9.
-fn filled_tables(alloc: Global) -> Result<Vec<u8>, AllocError> {
-    let parts = [
-        Part::Numbers(&[4, 0, 2, 30, 0]),
-        Part::Numbers(FOUR_STEPS.get(5..140).unwrap_or(&[])),
-        Part::Numbers(&[15, 0, 16, 9]),
-        Part::Numbers(FOUR_STEPS.get(140..194).unwrap_or(&[])),
-        Part::Numbers(&[15, 0, 16, 9, 17, 7]),
-        Part::Numbers(FOUR_STEPS.get(194..).unwrap_or(&[])),
-    ];
-    wide_bytes(alloc, &parts)
-}
-
-#[test]
-fn gaps_are_filled_from_the_memory(rt: HostRuntime) -> Result<(), Fail> {
-    let alloc = rt.alloc();
-    let members = r#""cells":[["0xa","0xc"],["0xb","0x0"],["0x11","0x7"]]"#;
-    let public = public_with(alloc, members)?;
-    let trace = trace_with(alloc, None)?;
-    let memory = memory_with(alloc, &[(16, Some(9)), (17, Some(7))])?;
-    let tables = filled_tables(alloc)?;
-    let files: [(&str, &[u8]); 4] = [
-        ("P", FOUR_STEPS_PROGRAM.as_bytes()),
-        ("U", &public),
-        ("T", &trace),
-        ("M", &memory),
-    ];
-    let lines = (
-        "tables: 4 steps, 1736 bytes\n",
-        "check: accepted, 4 steps\n",
-    );
-    check_built(&rt, alloc, "a gap", &files, &tables, lines)?;
-    Ok(())
-}
-
-/// Calls of the store that fail over the files of the four steps, and what is answered.
-const FAULTS: &[(&[u32], Status, &str)] = &[
-    (&[1], StoreFault, "store fault: P\n"),
-    (&[2], StoreFault, "store fault: P\n"),
-    (&[3], StoreFault, "store fault: P\n"),
-    (&[4], StoreFault, "store fault: U\n"),
-    (&[5], StoreFault, "store fault: U\n"),
-    (&[6], StoreFault, "store fault: U\n"),
-    (&[7], StoreFault, "store fault: T\n"),
-    (&[8], StoreFault, "store fault: T\n"),
-    (&[9], StoreFault, "store fault: T\n"),
-    (&[10], StoreFault, "store fault: M\n"),
-    (&[11], StoreFault, "store fault: M\n"),
-    (&[12], StoreFault, "store fault: M\n"),
-    (&[13], StoreFault, "store fault: O\n"),
-    (&[14], Done, "tables: 4 steps, 1656 bytes\n"),
+const FILLED: &[Part] = &[
+    Part::Numbers(&[4, 0, 2, 30, 0]),
+    Part::Between(FOUR_STEPS, 5, 140),
+    Part::Numbers(&[15, 0, 16, 9]),
+    Part::Between(FOUR_STEPS, 140, 194),
+    Part::Numbers(&[15, 0, 16, 9, 17, 7]),
+    Part::Between(FOUR_STEPS, 194, 206),
 ];
 
-/// A store with the files of the four steps, of which calls fail.
-fn store_of_steps(alloc: Global, fails: &[u32]) -> Result<MemoryStore, AllocError> {
-    let trace = bytes_of(alloc, TRACE)?;
-    let memory = bytes_of(alloc, MEMORY)?;
-    let files: [(&str, &[u8]); 4] = [
-        ("P", FOUR_STEPS_PROGRAM.as_bytes()),
-        ("U", FOUR_STEPS_PUBLIC.as_bytes()),
-        ("T", &trace),
-        ("M", &memory),
-    ];
-    store_of(alloc, &files, fails)
+/// The member of a public input with a cell at 17.
+const CELL_17: &str = r#""cells":[["0xa","0xc"],["0xb","0x0"],["0x11","0x7"]]"#;
+
+/// What `tables` and `check` answer.
+const FILLED_LINES: (&str, &str) = (
+    "tables: 4 steps, 1736 bytes\n",
+    "check: accepted, 4 steps\n",
+);
+
+#[test]
+fn gaps_are_filled_from_the_memory(rt: HostRuntime) {
+    let memory = Memory(&[(16, Some(9)), (17, Some(7))]);
+    let files = [P, Member(CELL_17), T, memory];
+    let tables = Parts(FILLED);
+    check_built(&rt, rt.alloc(), "a gap", &files, tables, FILLED_LINES);
 }
 
-/// Whether the four inputs of the four steps are as before.
-fn inputs_stay(alloc: Global, store: &MemoryStore) -> Result<bool, AllocError> {
-    let trace = bytes_of(alloc, TRACE)?;
-    let memory = bytes_of(alloc, MEMORY)?;
-    let texts = store.file("P") == Some(FOUR_STEPS_PROGRAM.as_bytes())
-        && store.file("U") == Some(FOUR_STEPS_PUBLIC.as_bytes());
-    Ok(texts && store.file("T") == Some(&trace) && store.file("M") == Some(&memory))
+/// The trace and the memory of the four steps.
+const T: Bytes = Numbers(TRACE);
+
+const M: Bytes = Numbers(MEMORY);
+
+/// The inputs of the four steps.
+const INPUTS: &[Bytes] = &[P, U, T, M];
+
+/// The calls of the store over the files of the four steps, of which each one fails, and what is answered.
+const FAULTS: &[(&str, u32, Status, &str)] = &[
+    ("beginning the program", 1, StoreFault, "store fault: P\n"),
+    ("reading the program", 2, StoreFault, "store fault: P\n"),
+    ("the end of the program", 3, StoreFault, "store fault: P\n"),
+    (
+        "beginning the public input",
+        4,
+        StoreFault,
+        "store fault: U\n",
+    ),
+    (
+        "reading the public input",
+        5,
+        StoreFault,
+        "store fault: U\n",
+    ),
+    (
+        "the end of the public input",
+        6,
+        StoreFault,
+        "store fault: U\n",
+    ),
+    ("beginning the trace", 7, StoreFault, "store fault: T\n"),
+    ("reading the trace", 8, StoreFault, "store fault: T\n"),
+    ("the end of the trace", 9, StoreFault, "store fault: T\n"),
+    ("beginning the memory", 10, StoreFault, "store fault: M\n"),
+    ("reading the memory", 11, StoreFault, "store fault: M\n"),
+    ("the end of the memory", 12, StoreFault, "store fault: M\n"),
+    ("writing the tables", 13, StoreFault, "store fault: O\n"),
+    (
+        "a call that is not made",
+        14,
+        Done,
+        "tables: 4 steps, 1656 bytes\n",
+    ),
+];
+
+/// The inputs stay, and the tables are there where the call is done.
+#[test]
+fn failing_calls_are_told(rt: HostRuntime) {
+    for (row, call, status, line) in FAULTS {
+        let mut store = store_of(&rt, rt.alloc(), BUILD, INPUTS, &[*call]);
+        check_call(&rt, rt.alloc(), row, BUILD, &mut store, (*status, line));
+        check_stay(&rt, rt.alloc(), row, &store, INPUTS);
+        let is_written = store.file("O").is_some();
+        assert!(rt; is_written == (*status == Done), "{row}: the tables");
+    }
 }
 
 #[test]
-fn failing_calls_are_told(rt: HostRuntime) -> Result<(), Fail> {
-    let alloc = rt.alloc();
-    for (fails, status, line) in FAULTS {
-        let mut store = store_of_steps(alloc, fails)?;
-        let row = format!(in alloc; "fails {fails:?}")?;
-        check_call(&rt, alloc, &row, TABLES, &mut store, (*status, line))?;
-        let left = inputs_stay(alloc, &store)? && store.file("O").is_some() == (*status == Done);
-        assert!(rt; left, "{row}: the files");
-    }
-    let mut store = store_of_steps(alloc, &[])?;
-    let mut sink = MemorySink::new(alloc, Vec::from_slice(alloc, &[1])?);
-    assert_eq!(rt; status_of(alloc, TABLES, &mut store, &mut sink)?, Sink);
-    assert!(rt;
-        store.file("O").is_some(),
-        "a failing sink: the tables are written"
-    );
-    Ok(())
+fn a_failing_sink_comes_after_the_tables(rt: HostRuntime) {
+    let mut store = store_of(&rt, rt.alloc(), BUILD, INPUTS, &[]);
+    check_failing_sink(&rt, rt.alloc(), "a failing sink", BUILD, &mut store);
+    assert!(rt; store.file("O").is_some(), "the tables are written");
 }
 
-/// Another file in the place of an input, or none, and what is answered.
-const OTHERS: &[(&str, Option<&[u8]>, Status, &str)] = &[
-    ("P", None, Missing, "missing: input 1\n"),
-    ("U", None, Missing, "missing: input 2\n"),
-    ("T", None, Missing, "missing: input 3\n"),
-    ("M", None, Missing, "missing: input 4\n"),
-    ("P", Some(b"{"), Input, "input 1: Json\n"),
-    ("U", Some(b"{"), Input, "input 2: Json\n"),
+/// Files of which one is another than in the four steps, or none. Then there are no tables.
+const OTHERS: &[Row] = &[
     (
-        "U",
-        Some(br#"{"steps":1048577}"#),
+        "no program",
+        &[Absent, U, T, M],
+        Missing,
+        "missing: input 1\n",
+    ),
+    (
+        "no public input",
+        &[P, Absent, T, M],
+        Missing,
+        "missing: input 2\n",
+    ),
+    (
+        "no trace",
+        &[P, U, Absent, M],
+        Missing,
+        "missing: input 3\n",
+    ),
+    (
+        "no memory",
+        &[P, U, T, Absent],
+        Missing,
+        "missing: input 4\n",
+    ),
+    (
+        "another program",
+        &[Raw(b"{"), U, T, M],
+        Input,
+        "input 1: Json\n",
+    ),
+    (
+        "another public input",
+        &[P, Raw(b"{"), T, M],
+        Input,
+        "input 2: Json\n",
+    ),
+    (
+        "too many steps",
+        &[P, Raw(br#"{"steps":1048577}"#), T, M],
         Limit,
         "limit: input 2\n",
     ),
-    ("T", Some(b""), Input, "input 3: Length\n"),
-    ("T", Some(&[0; 24]), Input, "input 3: Length\n"),
-    ("T", Some(&[0; 119]), Input, "input 3: Length\n"),
-    ("T", Some(&[255; 48]), Input, "input 3: NotField 0\n"),
-    ("M", Some(&[0; 223]), Input, "input 4: Length\n"),
-    ("M", Some(&[0; 32]), Input, "input 4: Order 16\n"),
-    ("M", Some(&[255; 16]), Input, "input 4: NotField 0\n"),
-    // a memory of no cells is one
     (
-        "M",
-        Some(b""),
+        "an empty trace",
+        &[P, U, Raw(b""), M],
+        Input,
+        "input 3: Length\n",
+    ),
+    (
+        "one state",
+        &[P, U, Long(0, 24), M],
+        Input,
+        "input 3: Length\n",
+    ),
+    (
+        "a trace with a byte cut",
+        &[P, U, Long(0, 119), M],
+        Input,
+        "input 3: Length\n",
+    ),
+    (
+        "no number of the field in the trace",
+        &[P, U, Long(255, 48), M],
+        Input,
+        "input 3: NotField 0\n",
+    ),
+    (
+        "a memory with a byte cut",
+        &[P, U, T, Long(0, 223)],
+        Input,
+        "input 4: Length\n",
+    ),
+    (
+        "equal addresses",
+        &[P, U, T, Long(0, 32)],
+        Input,
+        "input 4: Order 16\n",
+    ),
+    (
+        "no number of the field in the memory",
+        &[P, U, T, Long(255, 16)],
+        Input,
+        "input 4: NotField 0\n",
+    ),
+    (
+        "a memory of no cells, which is one",
+        &[P, U, T, Raw(b"")],
         Refused,
         "tables: refused: Step 0: NoCell 1\n",
     ),
-];
-
-/// The files of the four steps, but another one of this name, or none.
-fn store_but(alloc: Global, other: &str, bytes: Option<&[u8]>) -> Result<MemoryStore, AllocError> {
-    let trace = bytes_of(alloc, TRACE)?;
-    let memory = bytes_of(alloc, MEMORY)?;
-    let files: [(&str, &[u8]); 4] = [
-        ("P", FOUR_STEPS_PROGRAM.as_bytes()),
-        ("U", FOUR_STEPS_PUBLIC.as_bytes()),
-        ("T", &trace),
-        ("M", &memory),
-    ];
-    let mut list = Vec::new(alloc);
-    for (name, held) in files {
-        let held = if name == other { bytes } else { Some(held) };
-        if let Some(held) = held {
-            let name = String::from_str(alloc, name)?;
-            list.push((name, Vec::from_slice(alloc, held)?))?;
-        }
-    }
-    Ok(MemoryStore::new(list, Vec::new(alloc)))
-}
-
-/// The inputs by their names, a number of bytes above the limit, and what is answered.
-const LONG: &[(&str, usize, &str)] = &[
-    ("P", 16777217, "limit: input 1\n"),
-    ("U", 33554433, "limit: input 2\n"),
-    ("T", 25165849, "limit: input 3\n"),
-    ("M", 33554433, "limit: input 4\n"),
+    (
+        "a long program",
+        &[Long(b' ', 16777217), U, T, M],
+        Limit,
+        "limit: input 1\n",
+    ),
+    (
+        "a long public input",
+        &[P, Long(b' ', 33554433), T, M],
+        Limit,
+        "limit: input 2\n",
+    ),
+    (
+        "a long trace",
+        &[P, U, Long(b' ', 25165849), M],
+        Limit,
+        "limit: input 3\n",
+    ),
+    (
+        "a long memory",
+        &[P, U, T, Long(b' ', 33554433)],
+        Limit,
+        "limit: input 4\n",
+    ),
 ];
 
 #[test]
-fn other_inputs_are_told(rt: HostRuntime) -> Result<(), Fail> {
-    let alloc = rt.alloc();
-    for (other, bytes, status, line) in OTHERS {
-        let mut store = store_but(alloc, other, *bytes)?;
-        check_call(&rt, alloc, line, TABLES, &mut store, (*status, line))?;
-        assert!(rt; store.file("O").is_none(), "{line}: no tables");
+fn other_inputs_are_told(rt: HostRuntime) {
+    for (row, files, status, line) in OTHERS {
+        let mut store = store_of(&rt, rt.alloc(), BUILD, files, &[]);
+        check_call(&rt, rt.alloc(), row, BUILD, &mut store, (*status, line));
+        check_file(&rt, row, &store, "O", None);
     }
-    for (other, length, line) in LONG {
-        let bytes = vec![in alloc; b' '; *length]?;
-        let mut store = store_but(alloc, other, Some(&bytes))?;
-        check_call(&rt, alloc, line, TABLES, &mut store, (Limit, line))?;
-    }
-    Ok(())
 }

@@ -1,6 +1,6 @@
 //! Files from outside: programs, public inputs, assembly texts, and the numbers of traces, memories and tables files.
 
-use std::alloc::{AllocError, Global};
+use super::contents::Part;
 
 /// The program of four steps.
 #[rattlefmt::skip]
@@ -137,43 +137,6 @@ pub const RANGE_CELL_TEXT: &str = "%builtins range_check\n%start 0\n%end 5\nap +
 /// Its program.
 #[rattlefmt::skip]
 pub const RANGE_CELL_PROGRAM: &str = "{\"builtins\":[\"range_check\"],\"data\":[\"0x40780017fff7fff\",\"0x1\",\"0x4802800080008000\",\"0x4826800180008000\",\"0x1\",\"0x10780017fff7fff\",\"0x0\"],\"end\":5,\"prime\":\"0xffffffff00000001\",\"start\":0}";
-
-/// A part of the numbers of wide tables.
-#[derive(Clone, Copy)]
-pub enum Part {
-    /// These numbers.
-    Numbers(&'static [u64]),
-    /// So many numbers, each one more than the one before, from the first on.
-    Run(u64, u64),
-    /// So many cells of value 0, the addresses being such a run.
-    Cells(u64, u64),
-}
-
-/// The bytes of tables of these parts.
-pub fn wide_bytes(alloc: Global, parts: &[Part]) -> Result<Vec<u8>, AllocError> {
-    let mut bytes = Vec::from_slice(alloc, b"CAIROGT1")?;
-    for part in parts {
-        match part {
-            Part::Numbers(numbers) => {
-                for number in *numbers {
-                    bytes.extend_from_slice(&number.to_le_bytes())?;
-                }
-            }
-            Part::Run(first, count) => {
-                for k in 0..*count {
-                    bytes.extend_from_slice(&first.saturating_add(k).to_le_bytes())?;
-                }
-            }
-            Part::Cells(first, count) => {
-                for k in 0..*count {
-                    bytes.extend_from_slice(&first.saturating_add(k).to_le_bytes())?;
-                    bytes.extend_from_slice(&[0; 8])?;
-                }
-            }
-        }
-    }
-    Ok(bytes)
-}
 
 /// The tables of a run with a range cell.
 #[rattlefmt::skip]

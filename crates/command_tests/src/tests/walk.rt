@@ -1,12 +1,11 @@
 //! `walk` over traces and memories: legal runs, refused steps, and files that spell nothing or are too long.
 
+use super::contents::Bytes::{First, Long, Numbers};
 use super::steps::STEPS;
-use super::{MEMORY, TRACE, WALK, bytes_of, check_call, check_walk};
+use super::{MEMORY, Row, TRACE, WALK, check_call, check_rows, store_of};
 use cairo_commands::Status;
 use cairo_commands::Status::{Done, Input, Limit, Refused};
-use file_port::MemoryStore;
 use goldilocks::PRIME;
-use std::test::Fail;
 
 /// What is tried, the numbers of both files, the status and the line.
 pub type Walked = (
@@ -99,101 +98,138 @@ const NUMBERS: &[Walked] = &[
 ];
 
 /// How many bytes of a run's two files are there, and what is answered.
-const LENGTHS: &[(&str, usize, usize, Status, &str)] = &[
-    ("the whole run", 120, 224, Done, "walk: 4 steps\n"),
-    ("a byte cut", 119, 224, Input, "input 1: Length\n"),
-    ("a state cut", 96, 224, Done, "walk: 3 steps\n"),
-    ("two states", 48, 224, Done, "walk: 1 steps\n"),
-    ("two states but a byte", 47, 224, Input, "input 1: Length\n"),
-    ("one state", 24, 224, Input, "input 1: Length\n"),
-    ("one byte", 1, 224, Input, "input 1: Length\n"),
-    ("no byte", 0, 224, Input, "input 1: Length\n"),
+const LENGTHS: &[Row] = &[
+    (
+        "the whole run",
+        &[First(TRACE, 120), First(MEMORY, 224)],
+        Done,
+        "walk: 4 steps\n",
+    ),
+    (
+        "a byte cut",
+        &[First(TRACE, 119), First(MEMORY, 224)],
+        Input,
+        "input 1: Length\n",
+    ),
+    (
+        "a state cut",
+        &[First(TRACE, 96), First(MEMORY, 224)],
+        Done,
+        "walk: 3 steps\n",
+    ),
+    (
+        "two states",
+        &[First(TRACE, 48), First(MEMORY, 224)],
+        Done,
+        "walk: 1 steps\n",
+    ),
+    (
+        "two states but a byte",
+        &[First(TRACE, 47), First(MEMORY, 224)],
+        Input,
+        "input 1: Length\n",
+    ),
+    (
+        "one state",
+        &[First(TRACE, 24), First(MEMORY, 224)],
+        Input,
+        "input 1: Length\n",
+    ),
+    (
+        "one byte",
+        &[First(TRACE, 1), First(MEMORY, 224)],
+        Input,
+        "input 1: Length\n",
+    ),
+    (
+        "no byte",
+        &[First(TRACE, 0), First(MEMORY, 224)],
+        Input,
+        "input 1: Length\n",
+    ),
     (
         "a memory with a byte cut",
-        120,
-        223,
+        &[First(TRACE, 120), First(MEMORY, 223)],
         Input,
         "input 2: Length\n",
     ),
     (
         "a memory with a cell cut",
-        120,
-        208,
+        &[First(TRACE, 120), First(MEMORY, 208)],
         Refused,
         "walk: refused at step 2: NoCell 14\n",
     ),
-    ("half a cell", 120, 8, Input, "input 2: Length\n"),
+    (
+        "half a cell",
+        &[First(TRACE, 120), First(MEMORY, 8)],
+        Input,
+        "input 2: Length\n",
+    ),
     (
         "an empty memory",
-        120,
-        0,
+        &[First(TRACE, 120), First(MEMORY, 0)],
         Refused,
         "walk: refused at step 0: NoCell 1\n",
     ),
-    ("both cut", 0, 223, Input, "input 1: Length\n"),
+    (
+        "both cut",
+        &[First(TRACE, 0), First(MEMORY, 223)],
+        Input,
+        "input 1: Length\n",
+    ),
 ];
 
+/// Legal runs and refused steps, and numbers that spell nothing, or just something.
+const WALKS: &[&[Walked]] = &[STEPS, NUMBERS];
+
 #[test]
-fn runs_are_walked(rt: HostRuntime) -> Result<(), Fail> {
-    let alloc = rt.alloc();
-    for (row, trace, memory, status, line) in STEPS.iter().chain(NUMBERS) {
-        let trace = bytes_of(alloc, trace)?;
-        let memory = bytes_of(alloc, memory)?;
-        check_walk(&rt, alloc, row, &trace, &memory, (*status, line))?;
+fn runs_are_walked(rt: HostRuntime) {
+    for walks in WALKS {
+        for (row, trace, memory, status, line) in *walks {
+            let files = [Numbers(trace), Numbers(memory)];
+            let mut store = store_of(&rt, rt.alloc(), WALK, &files, &[]);
+            check_call(&rt, rt.alloc(), row, WALK, &mut store, (*status, line));
+        }
     }
-    for (row, trace_length, memory_length, status, line) in LENGTHS {
-        let mut trace = bytes_of(alloc, TRACE)?;
-        trace.truncate(*trace_length);
-        let mut memory = bytes_of(alloc, MEMORY)?;
-        memory.truncate(*memory_length);
-        check_walk(&rt, alloc, row, &trace, &memory, (*status, line))?;
-    }
-    Ok(())
+}
+
+#[test]
+fn lengths_are_told(rt: HostRuntime) {
+    check_rows(&rt, rt.alloc(), WALK, LENGTHS);
 }
 
 /// `jmp rel 0` at the address 0, which is a step from a state of zeros to itself.
 const STAY: &[u64] = &[0, 0x0104_8001_8000_8000, 1, 0];
 
 /// The lengths of a trace of zeros and of a memory of zeros, or of [`STAY`], and what is answered.
-const GREAT_LENGTHS: &[(&str, usize, Option<usize>, Status, &str)] = &[
+const GREAT_LENGTHS: &[Row] = &[
     (
         "the longest trace",
-        25165848,
-        None,
+        &[Long(0, 25165848), Numbers(STAY)],
         Done,
         "walk: 1048576 steps\n",
     ),
-    ("a longer one", 25165849, None, Limit, "limit: input 1\n"),
+    (
+        "a longer one",
+        &[Long(0, 25165849), Numbers(STAY)],
+        Limit,
+        "limit: input 1\n",
+    ),
     (
         "as long as a memory may be",
-        48,
-        Some(33554432),
+        &[Long(0, 48), Long(0, 33554432)],
         Input,
         "input 2: Order 16\n",
     ),
     (
         "a longer memory",
-        48,
-        Some(33554433),
+        &[Long(0, 48), Long(0, 33554433)],
         Limit,
         "limit: input 2\n",
     ),
 ];
 
 #[test]
-fn limits_are_kept(rt: HostRuntime) -> Result<(), Fail> {
-    let alloc = rt.alloc();
-    for (row, trace_length, memory_length, status, line) in GREAT_LENGTHS {
-        let mut files = Vec::new(alloc);
-        let trace = vec![in alloc; 0u8; *trace_length]?;
-        files.push((String::from_str(alloc, "T")?, trace))?;
-        let memory = match memory_length {
-            Some(length) => vec![in alloc; 0u8; *length]?,
-            None => bytes_of(alloc, STAY)?,
-        };
-        files.push((String::from_str(alloc, "M")?, memory))?;
-        let mut store = MemoryStore::new(files, Vec::new(alloc));
-        check_call(&rt, alloc, row, WALK, &mut store, (*status, line))?;
-    }
-    Ok(())
+fn limits_are_kept(rt: HostRuntime) {
+    check_rows(&rt, rt.alloc(), WALK, GREAT_LENGTHS);
 }

@@ -1,10 +1,12 @@
 //! Words that are an unknown command, names that are missing, and the numbers of the statuses.
 
-use super::{TRACE, WALK, bytes_of, check_call, store_of};
+use super::contents::Bytes::{Absent, Raw};
+use super::contents::bytes_of;
+use super::{Fault, Files, NO_MEMORY, TRACE, WALK, check_call, check_faults, put_file, store_in};
 use cairo_commands::Status;
 use cairo_commands::Status::{Done, Input, Limit, Missing, Refused, Words};
-use file_port::MemoryStore;
-use std::test::Fail;
+use std::alloc::Global;
+use std::process::Abort;
 
 /// Words that are an unknown command.
 const UNKNOWN_COMMANDS: &[&[&str]] = &[
@@ -90,69 +92,58 @@ const NAMES: &[Named] = &[
 ];
 
 #[test]
-fn unknown_words_are_told(rt: HostRuntime) -> Result<(), Fail> {
-    let alloc = rt.alloc();
+fn unknown_words_are_told(rt: HostRuntime) {
     for words in UNKNOWN_COMMANDS {
         // A call on the store would fail.
-        let mut store = store_of(alloc, &[], &[1])?;
-        let row = format!(in alloc; "{words:?}")?;
-        check_call(&rt, alloc, &row, words, &mut store, (Words, "usage\n"))?;
+        let mut store = store_in(&rt, rt.alloc(), Vec::new(rt.alloc()), &[1]);
+        let row = format!(in rt.alloc(); "{words:?}").expect(&rt, NO_MEMORY);
+        check_call(&rt, rt.alloc(), &row, words, &mut store, (Words, "usage\n"));
     }
-    Ok(())
+}
+
+/// The names that are listed, each with the bytes of the trace.
+fn traces(rt: &impl Abort, alloc: Global, names: &[&str]) -> Files {
+    let mut files = Vec::new(alloc);
+    for name in names {
+        put_file(rt, alloc, &mut files, name, bytes_of(rt, alloc, TRACE));
+    }
+    files
 }
 
 #[test]
-fn missing_names_are_told(rt: HostRuntime) -> Result<(), Fail> {
-    let alloc = rt.alloc();
+fn missing_names_are_told(rt: HostRuntime) {
     for (row, words, names, status, line) in NAMES {
-        let mut list = Vec::new(alloc);
-        for name in *names {
-            let name = String::from_str(alloc, name)?;
-            list.push((name, bytes_of(alloc, TRACE)?))?;
-        }
-        let mut store = MemoryStore::new(list, Vec::new(alloc));
-        check_call(&rt, alloc, row, words, &mut store, (*status, line))?;
+        let mut store = store_in(&rt, rt.alloc(), traces(&rt, rt.alloc(), names), &[]);
+        check_call(&rt, rt.alloc(), row, words, &mut store, (*status, line));
     }
-    // Where the first input decides, the second is not begun, missing or not: that call would fail.
-    let row = "the first input decides";
-    let mut store = store_of(alloc, &[("T", b"no trace")], &[4])?;
-    check_call(
-        &rt,
-        alloc,
-        row,
-        WALK,
-        &mut store,
-        (Input, "input 1: Length\n"),
-    )?;
-    let mut store = store_of(alloc, &[("T", b"no trace"), ("M", b"")], &[4])?;
-    check_call(
-        &rt,
-        alloc,
-        row,
-        WALK,
-        &mut store,
-        (Input, "input 1: Length\n"),
-    )?;
-    let mut store = store_of(alloc, &[("M", b"")], &[2])?;
-    let missing = (Missing, "missing: input 1\n");
-    check_call(&rt, alloc, row, WALK, &mut store, missing)?;
-    Ok(())
 }
+
+/// The second input is not begun, missing or not: that call would fail.
+#[test]
+fn the_first_input_decides(rt: HostRuntime) {
+    let second: &[Fault] = &[("the first input", &[4], Input, "input 1: Length\n")];
+    check_faults(&rt, rt.alloc(), WALK, &[Raw(b"no trace"), Absent], second);
+    check_faults(&rt, rt.alloc(), WALK, &[Raw(b"no trace"), Raw(b"")], second);
+    let missing: &[Fault] = &[("no first input", &[2], Missing, "missing: input 1\n")];
+    check_faults(&rt, rt.alloc(), WALK, &[Absent, Raw(b"")], missing);
+}
+
+/// The statuses and their numbers.
+const STATUSES: &[(Status, u8)] = &[
+    (Done, 0),
+    (Refused, 1),
+    (Words, 2),
+    (Input, 3),
+    (Status::Store, 5),
+    (Status::Sink, 6),
+    (Status::Memory, 7),
+    (Limit, 8),
+    (Missing, 9),
+];
 
 #[test]
 fn statuses_have_numbers(rt: HostRuntime) {
-    let statuses = [
-        (Done, 0),
-        (Refused, 1),
-        (Words, 2),
-        (Input, 3),
-        (Status::Store, 5),
-        (Status::Sink, 6),
-        (Status::Memory, 7),
-        (Limit, 8),
-        (Missing, 9),
-    ];
-    for (status, number) in statuses {
-        assert_eq!(rt; status.number(), number, "{status:?}");
+    for (status, number) in STATUSES {
+        assert_eq!(rt; status.number(), *number, "{status:?}");
     }
 }
