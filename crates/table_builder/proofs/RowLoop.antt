@@ -1,5 +1,5 @@
 -- The rows of the steps, built one after another.
-use Rattle.std.proofs.Common.{◌≡◌, ℕ, ◌+◌, ◌-◌, ◌≤◌, ◌<◌, ◌∙◌, Bool, true, false, List, [], ◌∷◌, ◌++◌, length, get_or, take, map, filter_map, Option, Some, None, refl, sym, ap, arith}
+use Rattle.std.proofs.Common.{◌≡◌, ℕ, ◌+◌, ◌≤◌, ◌<◌, ◌∙◌, Bool, true, false, List, [], ◌∷◌, ◌++◌, length, get_or, take, map, filter_map, Option, Some, None, refl, sym, ap, arith}
 use Rattle.std.specs.List.{cons_option}
 use Rattle.std.specs.Option.{option_map}
 use Rattle.std.proofs.Math.ListN.{get_or-map}
@@ -33,35 +33,33 @@ step_stays m s t stays = no (is_next (outcome m s) t) (λ same. stays ((outcome-
     no true never = sym (never refl)
     no false never = refl
 
-pub one_more_row : (m : Memory) (states : List State) (i : ℕ) (before : State) (row : Row) (rows after : List Row) → 1 ≤ i → i < length states → before ≡ get_or states (i - 1) before → IsRowOf m (registers before) (columns row) → rows ≡ rows_up_to m states (i - 1) → after ≡ rows ++ row ∷ [] → after ≡ rows_up_to m states (i + 1 - 1)
-one_more_row m states i before row rows after positive within before_is of_step so_far e =
+pub one_more_row : (m : Memory) (states : List State) (i : ℕ) (before : State) (row : Row) (rows after : List Row) → i + 1 < length states → before ≡ get_or states i before → IsRowOf m (registers before) (columns row) → rows ≡ rows_up_to m states i → after ≡ rows ++ row ∷ [] → after ≡ rows_up_to m states (i + 1)
+one_more_row m states i before row rows after within before_is of_step so_far e =
     let all = steps (map registers states) in
     let d : Registers × Registers = (registers before, registers before) in
     let h : Registers × Registers → Option Columns = λ step. row_at m step.0 in
-    let step : Registers × Registers = get_or all (i - 1) d in
+    let step : Registers × Registers = get_or all i d in
     let count : length (map registers states) ≡ length states = length-map states registers in
-    let inside : i - 1 < length all = omega (arith, length-steps (map registers states), count) in
+    let inside : i < length all = omega (arith, length-steps (map registers states), count) in
     let from : step.0 ≡ registers before =
-    ap (λ (p : Registers × Registers). p.0) (get_or-steps (map registers states) (i - 1) (registers before) (omega (arith, count)))
-    ∙ (get_or-map registers states (i - 1) before ∙ sym (ap registers before_is)) in
-    let place : i + 1 - 1 ≡ i - 1 + 1 = omega arith in
+    ap (λ (p : Registers × Registers). p.0) (get_or-steps (map registers states) i (registers before) (omega (arith, count)))
+    ∙ (get_or-map registers states i before ∙ sym (ap registers before_is)) in
     let here : h step ≡ Some (columns row) = ap (row_at m) from ∙ row_at-row m (registers before) row of_step in
-    let more : filter_map h (take (i + 1 - 1) all) ≡ filter_map h (take (i - 1) all) ++ columns row ∷ [] =
-    ap (λ k. filter_map h (take k all)) place
-    ∙ (ap (filter_map h) (take_more all (i - 1) d inside)
-    ∙ (filter_map-append h (take (i - 1) all) (step ∷ [])
-    ∙ ap (λ o. filter_map h (take (i - 1) all) ++ cons_option o []) here)) in
+    let more : filter_map h (take (i + 1) all) ≡ filter_map h (take i all) ++ columns row ∷ [] =
+    ap (filter_map h) (take_more all i d inside)
+    ∙ (filter_map-append h (take i all) (step ∷ [])
+    ∙ ap (λ o. filter_map h (take i all) ++ cons_option o []) here) in
     e
     ∙ (ap (λ rs. rs ++ row ∷ []) so_far
     ∙ sym (ap (map as_row) more
-    ∙ (map-append as_row (filter_map h (take (i - 1) all)) (columns row ∷ [])
-    ∙ ap (λ r. rows_up_to m states (i - 1) ++ r ∷ []) (row_kept row))))
+    ∙ (map-append as_row (filter_map h (take i all)) (columns row ∷ [])
+    ∙ ap (λ r. rows_up_to m states i ++ r ∷ []) (row_kept row))))
 
-pub all_rows : (m : Memory) (states : List State) (i : ℕ) (rows : List Row) → length states ≤ i → rows ≡ rows_up_to m states (i - 1) → rows ≡ rows_of m (map registers states)
+pub all_rows : (m : Memory) (states : List State) (i : ℕ) (rows : List Row) → length states ≤ i + 1 → rows ≡ rows_up_to m states i → rows ≡ rows_of m (map registers states)
 unfolding rows_of
 all_rows m states i rows past so_far =
     let all = steps (map registers states) in
-    so_far ∙ ap (λ ss. map as_row (filter_map (λ (step : Registers × Registers). row_at m step.0) ss)) (take_all (i - 1) all (omega (arith, length-steps (map registers states), length-map states registers)))
+    so_far ∙ ap (λ ss. map as_row (filter_map (λ (step : Registers × Registers). row_at m step.0) ss)) (take_all i all (omega (arith, length-steps (map registers states), length-map states registers)))
 
 pub step_refused : (m : Memory) (states : List Registers) (k : ℕ) (s : Registers) → Some (k, outcome m s) ≡ first_refused m states → step_finding m states ≡ Some (Step k (outcome m s))
 unfolding step_finding

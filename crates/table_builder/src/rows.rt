@@ -30,8 +30,8 @@ pub(crate) fn rows_of<M: Reads>(
         (λ rows. rows.items ≡ rows_of (M.cells m.now) (map registers states.now)) result }
 {
     let mut rows = Vec::with_capacity(alloc, states.len() - 1)?;
-    for next in 1..states.len() {
-        match build_row(m, states[next - 1], states[next]) {
+    for pair in states.windows(2) {
+        match build_row(m, pair[0], pair[1]) {
             Some(row) => rows.push(row)?,
             None => return Err(refused_step(m, states)),
         }
