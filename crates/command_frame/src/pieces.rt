@@ -28,20 +28,20 @@ pub struct Input<'w> {
 
 /// What takes the bytes of a file, piece by piece.
 ///
-/// The impl says by `took` what it knows of the bytes that it has taken, and [`read_pieces`] promises that of the whole
-/// file. A taker that finds a fault has to keep it and go on to take, since a fault of the store and the limit of the
-/// file stand before it.
+/// The impl says by `took` what a taker is that has taken bytes, and what it keeps of the taker that it was before them.
+/// [`read_pieces`] promises that of the whole file. A taker that finds a fault has to keep it and go on to take, since a
+/// fault of the store and the limit of the file stand before it.
 pub trait Taker: Drop {
-    // The taker has taken these bytes so far.
-    ghost took: { List ℕ → Self → Type 0 };
+    // The second taker is the first one after it has taken these bytes.
+    ghost took: { Self → List ℕ → Self → Type 0 };
 
     /// Takes the next bytes.
     fn take(&mut self, piece: &[u8]) -> Result<(), AllocError>
-        ensures { OnOk result ((bytes : List ℕ) → took bytes self.old → took (bytes ++ piece.now) self.new) };
+        ensures { OnOk result ((new : Self) (bytes : List ℕ) → took new bytes self.old → took new (bytes ++ piece.now) self.new) };
 }
 
 impl Taker for Vec<u8> {
-    ghost took = { λ bytes list. list.items ≡ bytes };
+    ghost took = { λ new bytes list. list.items ≡ bytes };
 
     fn take(&mut self, piece: &[u8]) -> Result<(), AllocError> {
         self.extend_from_slice(piece)
@@ -57,8 +57,8 @@ pub fn read_pieces<'w, S: Store, T: Taker>(
     taker: T,
 ) -> Result<T, Refusal<'w>>
     requires low { input.limit < 2 ^ 32 }
-    requires new { T.took [] taker }
-    ensures takes { TakesInput T.took (input_of input.entry)
+    requires new { T.took taker [] taker }
+    ensures takes { TakesInput (T.took taker) (input_of input.entry)
         (option_map (λ files. file_at files input.entry.name.now) (S.seen store.old).files) result }
     ensures uses { ReadsInputs (input_of input.entry ∷ []) (S.seen store.old) (S.seen store.new) result }
 {
@@ -79,8 +79,8 @@ fn read_rest<'w, S: Store, T: Taker>(
     mut taker: T,
 ) -> Result<T, Refusal<'w>>
     requires low { input.limit < 2 ^ 32 }
-    requires new { T.took [] taker }
-    ensures takes { TakesInput T.took (input_of input.entry) (option_map Some (S.seen store.old).reading) result }
+    requires new { T.took taker [] taker }
+    ensures takes { TakesInput (T.took taker) (input_of input.entry) (option_map Some (S.seen store.old).reading) result }
     ensures uses { ReadsInputs (input_of input.entry ∷ []) (S.seen store.old) (S.seen store.new) result }
     ensures present { IsMissing result → ⊥ }
 {

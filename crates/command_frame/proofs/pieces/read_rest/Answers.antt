@@ -14,4 +14,4 @@ returns-clause-takes g c =
 
 pub returns-clause-uses : goal.returns-clause-uses
 returns-clause-uses g c =
-    over_limit-uses g.T.Taker.took (input_of c.args.input) (g.S.Store.seen c.args.store.now) (g.S.Store.seen c.pieces.store) c.pieces.piece c.pieces.taker c.pieces.taken c.pieces.invariant (omega arith)
+    over_limit-uses (g.T.Taker.took c.args.taker) (input_of c.args.input) (g.S.Store.seen c.args.store.now) (g.S.Store.seen c.pieces.store) c.pieces.piece c.pieces.taker c.pieces.taken c.pieces.invariant (omega arith)
