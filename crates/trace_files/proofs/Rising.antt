@@ -43,8 +43,8 @@ module _ (pairs : List Pair) (k : ℕ) (within : k + 1 < length pairs) where
 pub rises_exactly : (pairs : List Pair) (answer : Bool) → IsAllAdjacentAnswer (λ x y b. b ≡ is_below x y) pairs answer → (answer ≡ true) ↔ IsStrictlyIncreasing (addresses pairs)
 rises_exactly pairs true each = (
   (λ _ k within.
-    let inside : k + 1 < length pairs = omega (arith, length-addresses pairs) in
-    rises_here pairs k inside (each k zero_cell inside)),
+      let inside : k + 1 < length pairs = omega (arith, length-addresses pairs) in
+      rises_here pairs k inside (each k zero_cell inside)),
   (λ _. refl),
 )
 rises_exactly pairs false once = (
