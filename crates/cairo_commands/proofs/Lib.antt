@@ -1,6 +1,7 @@
 pub mod ProgramReadings
 pub mod TableReadings
 pub mod HeldFiles
+pub mod EntryLimits
 pub mod WalkTheorem
 pub mod AsmTheorem
 pub mod DisTheorem

@@ -108,8 +108,8 @@ next_by f r dst op0 op1 =
     then_some (has_return_pc f r op0 && has_caller_fp f r dst && meets_assertion f dst op0 op1)
     (next_registers f r dst op0 op1)
 
--- The transition function. It has a value exactly where the cells of pc, dst, op0 and op1 are there, the first is a
--- defined word, and what its opcode demands holds. The whitepaper's state transition function.
+-- The transition function. A next state is there exactly where the step's four cells are held, the word at pc is
+-- defined, and the demands of its opcode are met. The whitepaper's state transition function.
 unfoldable pub next : Memory → Registers → Option Registers
 next m r = do
   number ← m r.pc

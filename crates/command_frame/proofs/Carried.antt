@@ -1,5 +1,5 @@
 -- What was planned and then written is carried out.
-use Rattle.std.proofs.Common.{◌≡◌, ℕ, List, [], ◌∷◌, map, Option, Some, None, Result, Ok, Err, IfSome, IfErr, IfOk, refl, sym, ap, ◌∙◌, inl, inr, ◌⊎◌, subst, arith}
+use Rattle.std.proofs.Common.{◌≡◌, ◌≤◌, ◌+◌, ℕ, List, [], ◌∷◌, map, Option, Some, None, Result, Ok, Err, IfSome, IfErr, IfOk, refl, sym, ap, ◌∙◌, inl, inr, ◌⊎◌, subst, arith}
 use Rattle.std.specs.Option.{option_map}
 use Rattle.file_port.specs.Files.{Name, Files}
 use Rattle.file_port.specs.Counts.{Counts, Rose}
@@ -9,11 +9,41 @@ use Rattle.command_frame.specs.declared.ending.Refusal.TheVariants.{Usage, Unspe
 use Rattle.command_frame.specs.declared.ending.Work.{Work}
 use Rattle.command_frame.specs.Answer.{Answer, Input, Task, written, reply_to}
 use Rattle.command_frame.specs.Status.{IsDecided}
-use Rattle.command_frame.specs.Evidence.{Partly, Torn, LeavesOutputs, OneName}
-use Rattle.command_frame.specs.Parts.{work_answer, refusal_answer, ending_answer, outputs_in, WorksOut, AreNamed, Uses, Plans, IsStoreFault, IsMissing, BlamesInput, BlamesOutput, BlamesFile, WritesOutputs, WritesWork, CarriesOut, Carries, EndsAs}
+use Rattle.command_frame.specs.Evidence.{Partly, Torn, LeavesOutputs, OneOf, OneName, most_given}
+use Rattle.command_frame.specs.Parts.{work_answer, refusal_answer, ending_answer, outputs_in, WorksOut, WritesAll, Uses, Plans, IsStoreFault, IsMissing, BlamesInput, BlamesOutput, WritesOutputs, WritesWork}
 
 abbrev Ending : Type 0
 Ending = Result Work Refusal
+
+-- ---- what a call has come to before its line is printed
+
+-- The call has come to what the answer says, with its files written. Own.
+pub record EndsAs (answer : Answer) (files : Files) (after : Seen) (result : Result Work Refusal) : Type 0 where
+  pub answers : (ending_answer result).status ≡ answer.status
+  pub writes : after.files ≡ Some (written answer.writes files)
+  pub prints : (ending_answer result).line ≡ answer.line
+
+-- The refusal blames one of the inputs, or one of the outputs where a replace failed. Own.
+abbrev pub BlamesFile : List Input → List Name → Seen → Seen → Refusal → Type 0
+BlamesFile inputs outputs before after (StoreFault name) =
+    OneOf (λ input most. name.now ≡ input.name) 0 inputs
+    ⊎ (Rose before.torn after.torn × OneName (λ output. name.now ≡ output) outputs)
+BlamesFile inputs outputs before after refusal = BlamesInput inputs before after refusal
+
+-- What a command has come to before its line is printed, and what it leaves by then. Own.
+pub record CarriesOut (task : Task) (before after : Seen) (result : Result Work Refusal) : Type 0 where
+  pub told : IfSome before.files (λ files. IsDecided (ending_answer result).status → EndsAs (task.answer files) files after result)
+  pub left : IfSome before.files (λ files. LeavesOutputs (task.answer files).writes files before after)
+  pub faults : Counts before.faults after.faults (IsStoreFault result)
+  pub torn : (IsStoreFault result → ⊥) → after.torn ≡ before.torn
+  pub absent : Counts before.absent after.absent (IsMissing result)
+  pub bounded : after.given ≤ before.given + most_given task.inputs
+  pub blames : IfErr result (BlamesFile task.inputs task.outputs before after)
+
+-- The same of a call: words that are an unknown command leave all as it was. Own.
+abbrev pub Carries : Option Task → Seen → Seen → Result Work Refusal → Type 0
+Carries None before after result = (result ≡ Err Usage) × (after ≡ before)
+Carries (Some task) before after result = CarriesOut task before after result
 
 -- what holds of a value with the equation that says so
 IfSome-known : {X : Type 0} (o : Option X) (P Q : X → Type 0) → IfSome o P → ((x : X) → o ≡ Some x → P x → Q x) → IfSome o Q
@@ -90,9 +120,9 @@ none_named : (outputs : List (Name × List ℕ)) (name : Name) → outputs ≡ [
 none_named outputs name none one =
     subst (λ (ws : List (Name × List ℕ)). OneName (λ output. name ≡ output) (map (λ output. output.0) ws)) none one
 
-one_named : (names : List Name) (outputs : List (Name × List ℕ)) (name : Name) → AreNamed names outputs → OneName (λ output. name ≡ output) (map (λ output. output.0) outputs) → OneName (λ output. name ≡ output) names
-one_named names outputs name (inl none) one = absurd (none_named outputs name none one)
-one_named names outputs name (inr same) one = subst (OneName (λ output. name ≡ output)) same one
+one_named : (names : List Name) (answer : Answer) (name : Name) → WritesAll names answer → OneName (λ output. name ≡ output) (map (λ output. output.0) answer.writes) → OneName (λ output. name ≡ output) names
+one_named names answer name (inl same) one = subst (OneName (λ output. name ≡ output)) same one
+one_named names answer name (inr none) one = absurd (none_named answer.writes name none.0 one)
 
 module _ (task : Task) (before between after : Seen) (work : Work) (uses : Uses task before between (Ok work)) where
   abbrev outputs : List (Name × List ℕ)
@@ -101,7 +131,7 @@ module _ (task : Task) (before between after : Seen) (work : Work) (uses : Uses 
   blames_output : (ending : Ending) → WritesOutputs outputs between after ending → IfErr ending (BlamesOutput outputs) → IfErr ending (BlamesFile task.inputs task.outputs before after)
   blames_output (Ok done) writes blames = tt
   blames_output (Err (StoreFault name)) writes blames =
-      inr (subst (λ n. Rose n after.torn) uses.reads.torn (writes.torn.rose tt), one_named task.outputs outputs name.now uses.names blames)
+      inr (subst (λ n. Rose n after.torn) uses.reads.torn (writes.torn.rose tt), one_named task.outputs (work_answer work) name.now uses.names blames)
   blames_output (Err OutOfMemory) writes blames = tt
   blames_output (Err Usage) writes blames = absurd blames
   blames_output (Err (Unspelled position text)) writes blames = absurd blames

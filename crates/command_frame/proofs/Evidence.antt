@@ -15,7 +15,8 @@ use Rattle.command_frame.specs.Status.{IsDecided}
 use Rattle.command_frame.specs.Finishes.{Finishes}
 use Rattle.command_frame.specs.Evidence.{piece, OneOf, OneName, PassesLimit, TellsUnspelled, Evidence, Leaves, Replied, TellsStoreFault}
 use Rattle.command_frame.proofs.OwnStatus.{IsOwn-status_of}
-use Rattle.command_frame.specs.Parts.{ending_answer, IsStoreFault, IsMissing, BlamesFile, CarriesOut, Carries, Prints}
+use Rattle.command_frame.specs.Parts.{ending_answer, IsStoreFault, IsMissing, Prints}
+use Rattle.command_frame.proofs.Carried.{BlamesFile, CarriesOut, Carries}
 
 -- ---- one of several
 

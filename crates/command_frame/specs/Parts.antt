@@ -1,5 +1,5 @@
 -- What the parts of a call say to one another. The contract of the call itself cites none of it. Own.
-use Rattle.std.specs.Prelude.{◌≡◌, ◌≤◌, ◌⊎◌, ℕ, ◌+◌, ⊤, List, [], length, map, Option, Some, None, Result, Ok, Err, OnOk, IfOk, IfErr, IfSome, string_bytes}
+use Rattle.std.specs.Prelude.{◌≡◌, ◌≢◌, ◌≤◌, ◌⊎◌, ℕ, ◌+◌, ⊤, List, [], length, map, Option, Some, None, Result, Ok, Err, OnOk, IfOk, IfErr, IfSome, string_bytes}
 use Rattle.std.specs.Option.{option_map}
 use Rattle.std.specs.Io.KnownBytes.{Appends, Keeps}
 use Rattle.file_port.specs.Files.{Name, Files}
@@ -154,15 +154,15 @@ pub record ReadsInputs {X : Type 0} (inputs : List Input) (before after : Seen) 
   pub bounded : after.given ≤ before.given + most_given inputs
   pub blames : IfErr result (BlamesInput inputs before after)
 
--- What is written has these names, or nothing is written. Own.
-abbrev pub AreNamed : List Name → List (Name × List ℕ) → Type 0
-AreNamed names writes = (writes ≡ []) ⊎ (map (λ write. write.0) writes ≡ names)
+-- An answer writes all outputs of these names, in their order, or is not done and writes nothing. Own.
+abbrev pub WritesAll : List Name → Answer → Type 0
+WritesAll names answer = (map (λ write. write.0) answer.writes ≡ names) ⊎ ((answer.writes ≡ []) × (answer.status ≢ Done))
 
--- What a command uses: it reads its inputs, and what it has worked out to write has the names of its outputs, or is
--- nothing. Own.
+-- What a command uses: it reads its inputs, and what it has worked out to write is all its outputs, or nothing where it
+-- is refused. Own.
 pub record Uses (task : Task) (before after : Seen) (result : Result Work Refusal) : Type 0 where
   pub reads : ReadsInputs task.inputs before after result
-  pub names : IfOk result (λ work. AreNamed task.outputs (outputs_in work.outputs.items))
+  pub names : IfOk result (λ work. WritesAll task.outputs (work_answer work))
 
 -- What the planning of a call uses: words that are an unknown command leave all as it was. Own.
 abbrev pub Plans : Option Task → Seen → Seen → Result Work Refusal → Type 0
@@ -190,34 +190,6 @@ pub record WritesOutputs {X : Type 0} (outputs : List (Name × List ℕ)) (befor
 abbrev pub WritesWork : Result Work Refusal → Seen → Seen → Result Work Refusal → Type 0
 WritesWork (Ok work) before after result = WritesOutputs (outputs_in work.outputs.items) before after result × IfOk result (λ same. same ≡ work)
 WritesWork (Err refusal) before after result = (result ≡ Err refusal) × (after ≡ before)
-
--- The call has come to what the answer says, with its files written. Own.
-pub record EndsAs (answer : Answer) (files : Files) (after : Seen) (result : Result Work Refusal) : Type 0 where
-  pub answers : (ending_answer result).status ≡ answer.status
-  pub writes : after.files ≡ Some (written answer.writes files)
-  pub prints : (ending_answer result).line ≡ answer.line
-
--- The refusal blames one of the inputs, or one of the outputs where a replace failed. Own.
-abbrev pub BlamesFile : List Input → List Name → Seen → Seen → Refusal → Type 0
-BlamesFile inputs outputs before after (StoreFault name) =
-    OneOf (λ input most. name.now ≡ input.name) 0 inputs
-    ⊎ (Rose before.torn after.torn × OneName (λ output. name.now ≡ output) outputs)
-BlamesFile inputs outputs before after refusal = BlamesInput inputs before after refusal
-
--- What a command has come to before its line is printed, and what it leaves by then. Own.
-pub record CarriesOut (task : Task) (before after : Seen) (result : Result Work Refusal) : Type 0 where
-  pub told : IfSome before.files (λ files. IsDecided (ending_answer result).status → EndsAs (task.answer files) files after result)
-  pub left : IfSome before.files (λ files. LeavesOutputs (task.answer files).writes files before after)
-  pub faults : Counts before.faults after.faults (IsStoreFault result)
-  pub torn : (IsStoreFault result → ⊥) → after.torn ≡ before.torn
-  pub absent : Counts before.absent after.absent (IsMissing result)
-  pub bounded : after.given ≤ before.given + most_given task.inputs
-  pub blames : IfErr result (BlamesFile task.inputs task.outputs before after)
-
--- The same of a call: words that are an unknown command leave all as it was. Own.
-abbrev pub Carries : Option Task → Seen → Seen → Result Work Refusal → Type 0
-Carries None before after result = (result ≡ Err Usage) × (after ≡ before)
-Carries (Some task) before after result = CarriesOut task before after result
 
 -- What printing an answer's line leaves and is answered with: the line, and the answer's status; a prefix of it,
 -- where the sink failed; nothing, where memory ran out. Own.

@@ -64,8 +64,8 @@ impl From<AllocError> for PutFault {
 
 /// The memory of a run: segments that grow, and cells that are written once.
 ///
-/// It is seen as the list of the segments' sizes and a finite map from places to values. A segment's size is one more
-/// than its greatest held offset, or 0. Segment 0 is the program's and keeps its size.
+/// It is seen as the list of the segments' sizes and a finite map from places to values. A segment without a held cell
+/// has the size 0, another its greatest held offset and one more. Segment 0 is the program's and keeps its size.
 #[derive(Drop)]
 pub struct Segments {
     columns: Vec<Column>,

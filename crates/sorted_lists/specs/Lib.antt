@@ -2,4 +2,4 @@ pub mod Order
 pub mod Difference
 pub mod Climbing
 pub mod Gaps
-pub mod Counts
+pub mod Parts
