@@ -17,7 +17,7 @@ use Rattle.casm_statements.specs.declared.Stmt.{Stmt}
 use Rattle.casm_statements.specs.declared.Body.{Body}
 use Rattle.casm_statements.specs.declared.Body.TheVariants as body
 use Rattle.casm_statements.specs.declared.Item.{Item}
-use Rattle.casm_statements.specs.Words.{encoding, with_operand, with_term, with_immediate}
+use Rattle.casm_statements.specs.Words.{encoding}
 use Rattle.casm_text.specs.Meaning.{bodies}
 use Rattle.assembler.specs.StatementWords.{statement_words}
 use Rattle.assembler.specs.Assembly.{body_size, word_count, label_in, label_at, labels_from, labels_of, value_in, label_named, distance_to, body_words, words_from, words_of, first_given, distance}

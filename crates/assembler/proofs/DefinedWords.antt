@@ -12,7 +12,7 @@ use Rattle.casm_statements.specs.declared.Operand.{Operand}
 use Rattle.casm_statements.specs.declared.Operand.TheVariants as operand
 use Rattle.casm_statements.specs.declared.Stmt.{Stmt}
 use Rattle.casm_statements.specs.declared.Stmt.TheVariants.{Assert, Jump, Branch, Call, Ret, AddAp}
-use Rattle.casm_statements.specs.Words.{is_fp, no_flags, unused, with_dst, with_op0, with_op1, with_immediate, with_term, with_operand, encoding}
+use Rattle.casm_statements.specs.Words.{is_fp, no_flags, unused, with_dst, with_op0, with_term, with_operand, encoding}
 
 -- the flag of the immediate
 term_immediate : (w : Word) (t : Term) → w.flags.op1_imm ≡ false → is_some (with_term w t).1 ≡ (with_term w t).0.flags.op1_imm

@@ -24,7 +24,7 @@ use Rattle.casm_statements.specs.declared.Target.TheVariants.{Number}
 use Rattle.casm_statements.specs.declared.Body.{Body}
 use Rattle.casm_statements.specs.declared.Body.TheVariants as body
 use Rattle.casm_statements.specs.declared.Item.{Item}
-use Rattle.casm_statements.specs.Words.{no_flags, unused, with_dst, with_op0, with_op1, with_immediate, with_term, with_operand, encoding}
+use Rattle.casm_statements.specs.Words.{no_flags, unused, with_dst, with_op0, with_term, with_operand, encoding}
 use Rattle.casm_tokens.specs.Limits.{text_limit}
 use Rattle.casm_text.specs.Canonical.{reg_text, offset_text, cell_text, half, number_text, term_text, operand_text, inc_text, way_text, stmt_text, body_text, printed}
 use Rattle.assembler.specs.StatementWords.{HasOffsets}

@@ -19,7 +19,6 @@ use Rattle.goldilocks.specs.Cells.{addresses}
 use Rattle.table_file.specs.Tables.{Contents}
 use Rattle.access_lists.specs.Accesses.{program_cells, range_cells, accesses as accesses_of}
 use Rattle.access_lists.specs.SmallValues.{small_values}
-use Rattle.constraint_checker.specs.Lists.{accesses, table_small_values}
 use Rattle.table_builder.specs.Rows.{first_of, no_state, as_row, rows_of}
 use Rattle.table_builder.specs.Columns.{least_of, greatest_of, reads, run_small_values, tables_of}
 use Rattle.table_builder.specs.Findings.{first_found, findings}

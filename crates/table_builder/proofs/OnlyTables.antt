@@ -30,7 +30,7 @@ use Rattle.range_columns.specs.Filling.{absent_values}
 use Rattle.table_file.specs.Tables.{Contents}
 use Rattle.access_lists.specs.Accesses.{row_cells, program_cells, range_cells, accesses as accesses_of}
 use Rattle.access_lists.specs.SmallValues.{row_offsets, limbs, small_values}
-use Rattle.constraint_checker.specs.Lists.{accessing, accesses, table_small_values}
+use Rattle.constraint_checker.specs.Lists.{accessing}
 use Rattle.goldilocks.specs.Cells.{cell, cells_from, addresses}
 use Rattle.table_builder.specs.Rows.{first_of, last_of, no_state, as_state, as_row, rows_of, range_address, limb_row, range_rows_of}
 use Rattle.table_builder.specs.Columns.{least_of, greatest_of, reads_of, row_small_values, reads, run_small_values, free_addresses, cells_at, tables_of}

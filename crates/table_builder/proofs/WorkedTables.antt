@@ -16,7 +16,6 @@ use Rattle.public_input.specs.Statement.{Statement}
 use Rattle.table_file.specs.Tables.{Contents}
 use Rattle.access_lists.specs.Accesses.{row_cells, program_cells, range_cells, accesses as accesses_of}
 use Rattle.access_lists.specs.SmallValues.{row_offsets, limbs, small_values}
-use Rattle.constraint_checker.specs.Lists.{accesses, table_small_values}
 use Rattle.goldilocks.specs.Cells.{cell, cells_from}
 use Rattle.table_builder.specs.declared.faults.Field.TheVariants.{ApLast, RcMax}
 use Rattle.table_builder.specs.Rows.{row_at, as_row, rows_of, limb_row, range_rows_of}

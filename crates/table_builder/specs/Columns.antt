@@ -13,7 +13,7 @@ use Rattle.range_columns.specs.declared.RangeRow.{RangeRow}
 use Rattle.range_columns.specs.Equations.{felt_cmp}
 use Rattle.range_columns.specs.Filling.{absent_values}
 use Rattle.access_lists.specs.Accesses.{accesses}
-use Rattle.access_lists.specs.SmallValues.{SmallParts, small_values}
+use Rattle.access_lists.specs.SmallValues.{small_values}
 use Rattle.constraint_checker.specs.Lists.{accessing_with}
 use Rattle.program_file.specs.Listing.{Listing}
 use Rattle.public_input.specs.Statement.{Statement}

@@ -1,5 +1,5 @@
 -- What the tables of a run are, in words of the run. "The whitepaper" is Cairo's, ePrint 2021/1063.
-use Rattle.std.specs.Prelude.{ℕ, ◌≡◌, ◌+◌, ◌<◌, ◌≤◌, List, [], zip, length, All, Some, slice_get}
+use Rattle.std.specs.Prelude.{ℕ, ◌≡◌, ◌+◌, ◌<◌, ◌≤◌, List, zip, length, All, Some, slice_get}
 use Rattle.goldilocks.specs.Field.{prime}
 use Rattle.casm_word.specs.Transition.{Memory, Registers, registers}
 use Rattle.casm_word.specs.Run.{steps, LegalRun}

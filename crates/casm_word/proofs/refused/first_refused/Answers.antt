@@ -1,4 +1,4 @@
-use Rattle.std.proofs.Common.{◌≡◌, ◌+◌, Some, length, sym, ap, ◌∙◌, rules}
+use Rattle.std.proofs.Common.{Some, length, sym, ap, ◌∙◌, rules}
 use Rattle.std.proofs.lemmas.List.{length_push}
 use Rattle.goldilocks.proofs.Windows.{numbered_turn, numbered_end}
 use Rattle.casm_word.specs.Transition.{outcome_of}

@@ -1,4 +1,4 @@
-use Rattle.std.proofs.Common.{◌≡◌, ◌∙◌, map, length, Some, None, Ok, ap, subst, arith}
+use Rattle.std.proofs.Common.{◌≡◌, ◌∙◌, map, Some, None, Ok, ap, subst, arith}
 use Rattle.std.specs.Prelude.{IfSome}
 use Rattle.std.proofs.lemmas.List.{length-map}
 use Rattle.casm_word.specs.Transition.{registers}
@@ -9,14 +9,11 @@ use Rattle.trace_files.specs.CellList.{listed}
 use Rattle.program_file.specs.declared.Program.{Program}
 use Rattle.program_file.specs.Listing.{listing, IsProgram}
 use Rattle.public_input.specs.Statement.{statement}
-use Rattle.table_file.specs.Tables.{Contents, contents}
 use Rattle.constraint_checker.proofs.Acceptances.{accepted_exactly}
-use Rattle.table_builder.specs.Rows.{rows_of, range_rows_of}
 use Rattle.table_builder.specs.Findings.{finding_of, first_found, limit_findings, width_finding}
-use Rattle.table_builder.specs.Building.{building}
 use Rattle.table_builder.proofs.Accepted.{built_valid, built_meets}
 use Rattle.table_builder.proofs.Chain.{ends_refuse, step_refuses, cells_refuse, range_refuses, limits_refuse, width_refuses, all_built}
-use Rattle.table_builder.proofs.BuiltRun.{refuses, registers_low, last_built, reads_are, small_are, tables_are, few_rows}
+use Rattle.table_builder.proofs.BuiltRun.{refuses, registers_low, last_built, reads_are, small_are, tables_are}
 use Rattle.table_builder.proofs.builder.build.Goals as goal
 
 pub returns-in_err-ends_agree-clause-fault : goal.returns-in_err-ends_agree-clause-fault

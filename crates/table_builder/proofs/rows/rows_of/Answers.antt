@@ -1,10 +1,9 @@
-use Rattle.std.proofs.Common.{◌≡◌, ◌+◌, ◌∙◌, length, map, Some, refl, ap, subst, rules}
+use Rattle.std.proofs.Common.{◌≡◌, ◌∙◌, length, map, Some, refl, subst, rules}
 use Rattle.std.specs.Prelude.{IsSome}
 use Rattle.std.proofs.lemmas.List.{length_push}
 use Rattle.goldilocks.proofs.Windows.{windows_turn, windows_end}
 use Rattle.casm_word.specs.Transition.{registers, outcome}
 use Rattle.casm_word.proofs.RefusedSteps.{refused_here, refused_later, first_refused-end}
-use Rattle.table_builder.specs.Findings.{Step}
 use Rattle.table_builder.proofs.RowLoop.{step_goes, step_stays, one_more_row, all_rows, step_refused, no_step_refused}
 use Rattle.table_builder.proofs.rows.rows_of.Goals as goal
 
