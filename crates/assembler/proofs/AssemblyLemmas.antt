@@ -236,3 +236,7 @@ words_of-at before after b =
       words_from-append labels 0 before (b ∷ after) ∙ ap (λ (n : ℕ). words_from labels 0 before ++ words_from labels n (b ∷ after)) e,
       words_from-length labels 0 before,
     )
+
+-- the words of a body that names its distance from where it is pushed
+pub pushed_at : (labels : List (List ℕ × ℕ)) (b : Body) (before after : List Felt) (by : Felt) (place : ℕ) → after ≡ before ++ body_words by b → by ≡ distance_to labels place (label_named b) → place ≡ length before → after ≡ before ++ body_words (distance_to labels (length before) (label_named b)) b
+pushed_at labels b before after by place pushed is at = pushed ∙ ap (λ (d : Felt). before ++ body_words d b) (is ∙ ap (λ (n : ℕ). distance_to labels n (label_named b)) at)

@@ -1,6 +1,8 @@
-use Rattle.std.proofs.Common.{◌≡◌, ◌<◌, ℕ, ◌∙◌, ap, subst, arith, inl, inr, get_or}
+use Rattle.std.proofs.Common.{◌≡◌, ◌<◌, ◌≤◌, ℕ, ◌∙◌, ap, subst, arith, inl, inr, get_or}
 use Rattle.std.specs.Char.{digit_value}
+use Rattle.std.specs.List.{slice_index}
 use Rattle.std.proofs.lemmas.Bool.{cases_lt}
+use Rattle.std.proofs.lemmas.Grind.{common_steps}
 use Rattle.goldilocks.proofs.Texts.{value_turn, digits_turn}
 use Rattle.goldilocks.proofs.text.read_digits.Goals as goal
 
@@ -24,3 +26,11 @@ loop-i-preserved c =
                 subst R e low
           ];
     }
+
+pub returns-in_default : goal.returns-in_default
+returns-in_default c =
+    let other : c.args.base ≤ digit_value (slice_index c.args.text.now c.loop-i.i) = grind (arith, common_steps) in
+    record { answer = (omega arith, omega arith, other, c.loop-i.invariant.before) }
+
+pub invariant_of-result : goal.invariant_of-result
+invariant_of-result c = record { in_field = omega arith }
