@@ -7,38 +7,44 @@ mod tables;
 mod traces;
 
 use goldilocks::{Felt, PRIME, Pair};
-use std::alloc::{AllocError, Global};
+use std::alloc::Global;
 use std::process::Abort;
 
 /// p - 1.
 const LAST: u64 = PRIME - 1;
 
-/// The bytes of these numbers, cut to so many.
-fn bytes_of(alloc: Global, numbers: &[u64], size: usize) -> Result<Vec<u8>, AllocError> {
-    let mut bytes = Vec::new(alloc);
+/// What a test says that finds no memory.
+const NO_MEMORY: &str = "no memory";
+
+/// Puts the bytes of these numbers behind the others.
+fn push_numbers(rt: &impl Abort, bytes: &mut Vec<u8>, numbers: &[u64]) {
     for number in numbers {
-        bytes.extend_from_slice(&number.to_le_bytes())?;
+        bytes
+            .extend_from_slice(&number.to_le_bytes())
+            .expect(rt, NO_MEMORY);
     }
+}
+
+/// The bytes of these numbers, cut to so many.
+fn bytes_of(rt: &impl Abort, alloc: Global, numbers: &[u64], size: usize) -> Vec<u8> {
+    let mut bytes = Vec::new(alloc);
+    push_numbers(rt, &mut bytes, numbers);
     bytes.truncate(size);
-    Ok(bytes)
+    bytes
 }
 
 /// So many zero bytes.
-fn zeros(alloc: Global, size: usize) -> Result<Vec<u8>, AllocError> {
-    vec![in alloc; 0u8; size]
+fn zeros(rt: &impl Abort, alloc: Global, size: usize) -> Vec<u8> {
+    vec![in alloc; 0u8; size].expect(rt, NO_MEMORY)
 }
 
 /// The pairs with these addresses and values.
-fn pairs_of(
-    rt: &impl Abort,
-    alloc: Global,
-    numbers: &[(u64, u64)],
-) -> Result<Vec<Pair>, AllocError> {
+fn pairs_of(rt: &impl Abort, alloc: Global, numbers: &[(u64, u64)]) -> Vec<Pair> {
     let mut pairs = Vec::new(alloc);
     for (addr, value) in numbers {
         let addr = Felt::new(*addr).expect(rt, "the address is below p");
         let value = Felt::new(*value).expect(rt, "the value is below p");
-        pairs.push(Pair { addr, value })?;
+        pairs.push(Pair { addr, value }).expect(rt, NO_MEMORY);
     }
-    Ok(pairs)
+    pairs
 }

@@ -1,9 +1,8 @@
 //! Lists of cells, and what they have at an address.
 
-use super::{AllocError, Felt, Global, LAST, Pair, pairs_of};
+use super::{Felt, Global, LAST, NO_MEMORY, Pair, pairs_of};
 use casm_word::Reads;
 use std::process::Abort;
-use std::test::Fail;
 use trace_files::{CellList, read_memory, write_memory};
 
 /// Addresses and values, and whether they are a list of cells.
@@ -67,58 +66,55 @@ const LOOK_UPS: &[(&str, &[(u64, u64)], &[(u64, Option<u64>)])] = &[
 ];
 
 #[test]
-fn only_rising_addresses_are_a_list(rt: HostRuntime) -> Result<(), Fail> {
-    let alloc = rt.alloc();
+fn only_rising_addresses_are_a_list(rt: HostRuntime) {
     for (name, numbers, is_list) in LISTS {
-        let pairs = pairs_of(&rt, alloc, numbers)?;
-        let list = CellList::new(pairs);
-        assert_eq!(rt; list.is_some(), *is_list, "{name}");
+        let list = CellList::new(pairs_of(&rt, rt.alloc(), numbers));
+        assert!(rt; list.is_some() == *is_list, "{name}");
         if let Some(list) = list {
-            let pairs = pairs_of(&rt, alloc, numbers)?;
-            assert_eq!(rt; list.cells(), pairs.as_slice(), "{name}");
+            let pairs = pairs_of(&rt, rt.alloc(), numbers);
+            assert!(rt; list.cells() == pairs.as_slice(), "{name}");
         }
     }
-    Ok(())
 }
 
 /// So many cells, at the addresses from 0 on, with the address plus 1 as the value.
-fn row_of_cells(rt: &impl Abort, alloc: Global, count: u64) -> Result<Vec<Pair>, AllocError> {
+fn row_of_cells(rt: &impl Abort, alloc: Global, count: u64) -> Vec<Pair> {
     let mut pairs = Vec::new(alloc);
     for i in 0..count {
         let addr = Felt::new(i).expect(rt, "the address is below p");
         let value = addr.add(Felt::ONE);
-        pairs.push(Pair { addr, value })?;
+        pairs.push(Pair { addr, value }).expect(rt, NO_MEMORY);
     }
-    Ok(pairs)
+    pairs
 }
 
 #[test]
-fn a_list_has_two_to_the_21_cells_at_most(rt: HostRuntime) -> Result<(), Fail> {
+fn a_list_has_two_to_the_21_cells_at_most(rt: HostRuntime) {
     let alloc = rt.alloc();
-    let too_many = row_of_cells(&rt, alloc, 2097153)?;
-    assert!(rt; CellList::new(too_many).is_none());
-    let most = row_of_cells(&rt, alloc, 2097152)?;
+    assert!(rt; CellList::new(row_of_cells(&rt, alloc, 2097153)).is_none());
+    let most = row_of_cells(&rt, alloc, 2097152);
     let list = CellList::new(most).expect(&rt, "2^21 cells");
-    let bytes = write_memory(alloc, &list)?;
-    assert_eq!(rt; bytes.len(), 33554432);
-    let read = read_memory(alloc, &bytes)?;
-    assert_eq!(rt; read.cells().len(), 2097152);
-    let last = Felt::new(2097151).expect(&rt, "below p");
-    assert_eq!(rt; read.read(last).map(|value| value.number), Some(2097152));
-    Ok(())
+    let bytes = write_memory(alloc, &list).expect(&rt, NO_MEMORY);
+    assert!(rt; bytes.len() == 33554432);
+    let read = read_memory(alloc, &bytes).expect(&rt, "2^21 cells are read");
+    assert!(rt; read.cells().len() == 2097152);
+    assert!(rt; value_at(&rt, &read, 2097151) == Some(2097152));
+}
+
+/// The value at an address of the list.
+fn value_at(rt: &impl Abort, list: &CellList, address: u64) -> Option<u64> {
+    let address = Felt::new(address).expect(rt, "the address is below p");
+    Some(list.read(address)?.number)
 }
 
 #[test]
-fn cells_are_found_at_their_addresses(rt: HostRuntime) -> Result<(), Fail> {
-    let alloc = rt.alloc();
+fn cells_are_found_at_their_addresses(rt: HostRuntime) {
     for (name, numbers, look_ups) in LOOK_UPS {
-        let pairs = pairs_of(&rt, alloc, numbers)?;
+        let pairs = pairs_of(&rt, rt.alloc(), numbers);
         let list = CellList::new(pairs).expect(&rt, "rising addresses");
         for (address, value) in *look_ups {
-            let a = Felt::new(*address).expect(&rt, "the address is below p");
-            let found = list.read(a).map(|value| value.number);
-            assert_eq!(rt; found, *value, "{name} at {address}");
+            let found = value_at(&rt, &list, *address);
+            assert!(rt; found == *value, "{name} at {address}");
         }
     }
-    Ok(())
 }

@@ -1,8 +1,7 @@
 //! Memory files, and the texts of faults.
 
-use super::{Global, LAST, PRIME, bytes_of, zeros};
+use super::{Global, LAST, NO_MEMORY, PRIME, bytes_of, zeros};
 use std::process::Abort;
-use std::test::Fail;
 use trace_files::{CellList, FileFault, MEMORY_LIMIT, read_memory, write_memory};
 
 /// Address and value of each cell of a run of four steps.
@@ -134,26 +133,26 @@ const TEXTS: &[(FileFault, &str)] = &[
 ];
 
 /// Address and value of each cell.
-fn numbers_of(alloc: Global, list: &CellList) -> Result<Vec<u64>, Fail> {
+fn numbers_of(rt: &impl Abort, alloc: Global, list: &CellList) -> Vec<u64> {
     let mut numbers = Vec::new(alloc);
     for cell in list.cells() {
-        numbers.extend_from_slice(&[cell.addr.number, cell.value.number])?;
+        numbers.push(cell.addr.number).expect(rt, NO_MEMORY);
+        numbers.push(cell.value.number).expect(rt, NO_MEMORY);
     }
-    Ok(numbers)
+    numbers
 }
 
 #[test]
-fn cells_are_read_and_written(rt: HostRuntime) -> Result<(), Fail> {
+fn cells_are_read_and_written(rt: HostRuntime) {
     let alloc = rt.alloc();
     for (name, numbers) in MEMORIES {
-        let bytes = bytes_of(alloc, numbers, usize::MAX)?;
-        let list = read_memory(alloc, &bytes)?;
-        let read = numbers_of(alloc, &list)?;
-        assert_eq!(rt; read.as_slice(), *numbers, "{name}");
-        let written = write_memory(alloc, &list)?;
-        assert_eq!(rt; written.as_slice(), bytes.as_slice(), "{name}");
+        let bytes = bytes_of(&rt, alloc, numbers, usize::MAX);
+        let list = read_memory(alloc, &bytes).expect(&rt, "the memory is read");
+        let read = numbers_of(&rt, alloc, &list);
+        assert!(rt; read.as_slice() == *numbers, "{name}, read");
+        let written = write_memory(alloc, &list).expect(&rt, NO_MEMORY);
+        assert!(rt; written == bytes, "{name}, written");
     }
-    Ok(())
 }
 
 /// Reads the bytes, and looks at how many cells they have or at the fault.
@@ -165,28 +164,26 @@ fn check(
     wanted: Result<usize, FileFault>,
 ) {
     let found = read_memory(alloc, bytes).map(|list| list.cells().len());
-    assert_eq!(rt; found, wanted, "{name}");
+    assert!(rt; found == wanted, "{name}");
 }
 
 #[test]
-fn the_first_fault_of_a_memory_is_told(rt: HostRuntime) -> Result<(), Fail> {
+fn the_first_fault_of_a_memory_is_told(rt: HostRuntime) {
     let alloc = rt.alloc();
     for (name, numbers, size, fault) in FAULTS {
-        let bytes = bytes_of(alloc, numbers, *size)?;
+        let bytes = bytes_of(&rt, alloc, numbers, *size);
         check(&rt, alloc, name, &bytes, Err(*fault));
     }
     for (name, size, fault) in SIZES {
-        let bytes = zeros(alloc, *size)?;
+        let bytes = zeros(&rt, alloc, *size);
         check(&rt, alloc, name, &bytes, Err(*fault));
     }
-    Ok(())
 }
 
 #[test]
-fn faults_are_written_with_their_places(rt: HostRuntime) -> Result<(), Fail> {
+fn faults_are_written_with_their_places(rt: HostRuntime) {
     for (fault, text) in TEXTS {
-        let written = format!(in rt.alloc(); "{fault}")?;
-        assert_eq!(rt; written.as_str(), *text, "{text}");
+        let written = fault.to_string(rt.alloc()).expect(&rt, NO_MEMORY);
+        assert!(rt; written.as_str() == *text, "{text}");
     }
-    Ok(())
 }

@@ -1,7 +1,10 @@
 //! Tables files.
 
-use super::{AllocError, Global, PRIME};
-use std::test::Fail;
+use super::{Global, NO_MEMORY, PRIME, push_numbers};
+use casm_word::State;
+use goldilocks::{Felt, Pair};
+use range_columns::RangeRow;
+use std::process::Abort;
 use table_file::{TABLES_LIMIT, TableFault, Tables, read, write};
 
 /// The numbers of a file from outside, after its text: the tables of a run of four steps.
@@ -70,35 +73,27 @@ use Change::{Byte, Cut, More, Number};
 use TableFault::{Length, Magic, NotField, TooMany};
 
 /// The file with these numbers after its text.
-fn file(alloc: Global, numbers: &[u64]) -> Result<Vec<u8>, AllocError> {
-    let mut bytes = Vec::new(alloc);
-    bytes.extend_from_slice(b"CAIROGT1")?;
-    for number in numbers {
-        bytes.extend_from_slice(&number.to_le_bytes())?;
-    }
-    Ok(bytes)
+fn file(rt: &impl Abort, alloc: Global, numbers: &[u64]) -> Vec<u8> {
+    let mut bytes = b"CAIROGT1".to_vec(alloc).expect(rt, NO_MEMORY);
+    push_numbers(rt, &mut bytes, numbers);
+    bytes
 }
 
 /// Puts bytes at a place.
 fn put(bytes: &mut Vec<u8>, place: usize, new: &[u8]) {
-    for (i, byte) in new.iter().enumerate() {
-        if let Some(old) = bytes.get_mut(place.saturating_add(i)) {
-            *old = *byte;
-        }
+    for (old, byte) in bytes.iter_mut().skip(place).zip(new) {
+        *old = *byte;
     }
 }
 
-/// Makes the changes one after another.
-fn make_changes(bytes: &mut Vec<u8>, changes: &[Change]) -> Result<(), AllocError> {
-    for one in changes {
-        match *one {
-            Byte(place, byte) => put(bytes, place, &[byte]),
-            Number(place, number) => put(bytes, place, &number.to_le_bytes()),
-            Cut(len) => bytes.truncate(len),
-            More => bytes.push(0)?,
-        }
+/// Makes one change.
+fn make(rt: &impl Abort, bytes: &mut Vec<u8>, change: Change) {
+    match change {
+        Byte(place, byte) => put(bytes, place, &[byte]),
+        Number(place, number) => put(bytes, place, &number.to_le_bytes()),
+        Cut(len) => bytes.truncate(len),
+        More => bytes.push(0).expect(rt, NO_MEMORY),
     }
-    Ok(())
 }
 
 /// A name, the changes of the file from outside, and the fault that it then has.
@@ -277,44 +272,62 @@ const CASES: &[Case] = &[
 ];
 
 #[test]
-fn the_first_fault_is_told(rt: HostRuntime) -> Result<(), Fail> {
+fn the_first_fault_is_told(rt: HostRuntime) {
     for (name, changes, fault) in CASES {
-        let mut bytes = file(rt.alloc(), FOUR_STEPS)?;
-        make_changes(&mut bytes, changes)?;
-        assert_eq!(rt; read(rt.alloc(), &bytes).err(), *fault, "{name}");
+        let mut bytes = file(&rt, rt.alloc(), FOUR_STEPS);
+        for change in *changes {
+            make(&rt, &mut bytes, *change);
+        }
+        assert!(rt; read(rt.alloc(), &bytes).err() == *fault, "{name}");
     }
-    Ok(())
+}
+
+/// Puts one more number behind the others.
+fn push_value(rt: &impl Abort, numbers: &mut Vec<u64>, value: Felt) {
+    numbers.push(value.number).expect(rt, NO_MEMORY);
+}
+
+fn push_values(rt: &impl Abort, numbers: &mut Vec<u64>, values: &[Felt]) {
+    for value in values {
+        push_value(rt, numbers, *value);
+    }
+}
+
+fn push_pairs(rt: &impl Abort, numbers: &mut Vec<u64>, pairs: &[Pair]) {
+    for pair in pairs {
+        push_value(rt, numbers, pair.addr);
+        push_value(rt, numbers, pair.value);
+    }
+}
+
+fn push_state(rt: &impl Abort, numbers: &mut Vec<u64>, state: State) {
+    push_value(rt, numbers, state.pc);
+    push_value(rt, numbers, state.ap);
+    push_value(rt, numbers, state.fp);
+}
+
+fn push_range_row(rt: &impl Abort, numbers: &mut Vec<u64>, row: &RangeRow) {
+    push_value(rt, numbers, row.value);
+    push_value(rt, numbers, row.l0);
+    push_value(rt, numbers, row.l1);
+    push_value(rt, numbers, row.l2);
 }
 
 /// All values of the tables, list after list.
-fn values_of(alloc: Global, tables: &Tables) -> Result<Vec<u64>, AllocError> {
-    let mut values = Vec::new(alloc);
+fn values_of(rt: &impl Abort, alloc: Global, tables: &Tables) -> Vec<u64> {
+    let mut numbers = Vec::new(alloc);
     for row in &tables.rows {
-        for value in row.values() {
-            values.push(value.number)?;
-        }
+        push_values(rt, &mut numbers, &row.values());
     }
-    for value in [tables.last.pc, tables.last.ap, tables.last.fp] {
-        values.push(value.number)?;
-    }
+    push_state(rt, &mut numbers, tables.last);
     for row in &tables.range {
-        for value in [row.value, row.l0, row.l1, row.l2] {
-            values.push(value.number)?;
-        }
+        push_range_row(rt, &mut numbers, row);
     }
-    for pair in &tables.memory.fill {
-        values.extend_from_slice(&[pair.addr.number, pair.value.number])?;
-    }
-    for pair in &tables.memory.sorted {
-        values.extend_from_slice(&[pair.addr.number, pair.value.number])?;
-    }
-    for value in &tables.small.fill {
-        values.push(value.number)?;
-    }
-    for value in &tables.small.sorted {
-        values.push(value.number)?;
-    }
-    Ok(values)
+    push_pairs(rt, &mut numbers, &tables.memory.fill);
+    push_pairs(rt, &mut numbers, &tables.memory.sorted);
+    push_values(rt, &mut numbers, &tables.small.fill);
+    push_values(rt, &mut numbers, &tables.small.sorted);
+    numbers
 }
 
 /// How many items the lists have.
@@ -349,29 +362,27 @@ const TEXTS: &[(TableFault, &str)] = &[
 ];
 
 #[test]
-fn files_are_read_and_written_back(rt: HostRuntime) -> Result<(), Fail> {
+fn files_are_read_and_written_back(rt: HostRuntime) {
+    let alloc = rt.alloc();
     for (name, numbers, counts) in FILES {
-        let bytes = file(rt.alloc(), numbers)?;
-        let tables = read(rt.alloc(), &bytes)?;
-        assert_eq!(rt; lengths(&tables).as_slice(), *counts, "{name}");
-        let values = values_of(rt.alloc(), &tables)?;
-        assert_eq!(rt;
-            values.as_slice(),
-            numbers.get(5..).unwrap_or(&[]),
-            "{name}"
+        let bytes = file(&rt, alloc, numbers);
+        let tables = read(alloc, &bytes).expect(&rt, "the tables are read");
+        assert!(rt; lengths(&tables).as_slice() == *counts, "{name}, counts");
+        let values = values_of(&rt, alloc, &tables);
+        assert!(rt;
+            Some(values.as_slice()) == numbers.get(5..),
+            "{name}, values"
         );
-        let back = write(rt.alloc(), &tables)?;
-        assert_eq!(rt; back.as_slice(), bytes.as_slice(), "{name}");
+        let back = write(alloc, &tables).expect(&rt, NO_MEMORY);
+        assert!(rt; back == bytes, "{name}, written");
     }
-    Ok(())
 }
 
 #[test]
-fn faults_are_printed(rt: HostRuntime) -> Result<(), Fail> {
+fn faults_are_printed(rt: HostRuntime) {
     for (fault, text) in TEXTS {
-        let printed = fault.to_string(rt.alloc())?;
-        assert_eq!(rt; printed.as_str(), *text, "{text}");
+        let printed = fault.to_string(rt.alloc()).expect(&rt, NO_MEMORY);
+        assert!(rt; printed.as_str() == *text, "{text}");
     }
-    assert_eq!(rt; TABLES_LIMIT, 464519240);
-    Ok(())
+    assert!(rt; TABLES_LIMIT == 464519240);
 }

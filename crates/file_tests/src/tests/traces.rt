@@ -1,8 +1,8 @@
 //! Trace files.
 
-use super::{Global, LAST, PRIME, bytes_of, zeros};
+use super::{Global, LAST, NO_MEMORY, PRIME, bytes_of, zeros};
+use casm_word::State;
 use std::process::Abort;
-use std::test::Fail;
 use trace_files::{FileFault, TRACE_LIMIT, read_trace, write_trace};
 
 /// ap, fp and pc of each state of a run of four steps.
@@ -115,25 +115,35 @@ const FAULTS: &[(&str, &[u64], usize, FileFault)] = &[
     ),
 ];
 
+/// ap, fp and pc of each state.
+fn numbers_of(rt: &impl Abort, alloc: Global, states: &[State]) -> Vec<u64> {
+    let mut numbers = Vec::new(alloc);
+    for state in states {
+        numbers.push(state.ap.number).expect(rt, NO_MEMORY);
+        numbers.push(state.fp.number).expect(rt, NO_MEMORY);
+        numbers.push(state.pc.number).expect(rt, NO_MEMORY);
+    }
+    numbers
+}
+
 #[test]
-fn states_are_read_and_written(rt: HostRuntime) -> Result<(), Fail> {
+fn states_are_read_and_written(rt: HostRuntime) {
     let alloc = rt.alloc();
     for (name, numbers) in TRACES {
-        let bytes = bytes_of(alloc, numbers, usize::MAX)?;
-        let states = read_trace(alloc, &bytes)?;
-        let mut read = Vec::new(alloc);
-        for state in &states {
-            read.extend_from_slice(&[state.ap.number, state.fp.number, state.pc.number])?;
-        }
-        assert_eq!(rt; read.as_slice(), *numbers, "{name}");
-        assert!(rt; 2 <= states.len() && states.len() <= 1048577, "{name}");
-        let written = write_trace(alloc, &states)?;
-        assert_eq!(rt; written.as_slice(), bytes.as_slice(), "{name}");
+        let bytes = bytes_of(&rt, alloc, numbers, usize::MAX);
+        let states = read_trace(alloc, &bytes).expect(&rt, "the trace is read");
+        let read = numbers_of(&rt, alloc, &states);
+        assert!(rt; read.as_slice() == *numbers, "{name}, read");
+        assert!(rt;
+            2 <= states.len() && states.len() <= 1048577,
+            "{name}, length"
+        );
+        let written = write_trace(alloc, &states).expect(&rt, NO_MEMORY);
+        assert!(rt; written == bytes, "{name}, written");
     }
-    let bytes = bytes_of(alloc, FOUR_STEPS, usize::MAX)?;
-    assert_eq!(rt; bytes.len(), 120);
-    assert_eq!(rt; &bytes[..24], FIRST_STATE);
-    Ok(())
+    let bytes = bytes_of(&rt, alloc, FOUR_STEPS, usize::MAX);
+    assert!(rt; bytes.len() == 120);
+    assert!(rt; bytes.get(..24) == Some(FIRST_STATE));
 }
 
 /// Reads the bytes, and looks at how many states they have or at the fault.
@@ -145,33 +155,22 @@ fn check(
     wanted: Result<usize, FileFault>,
 ) {
     let found = read_trace(alloc, bytes).map(|states| states.len());
-    assert_eq!(rt; found, wanted, "{name}");
+    assert!(rt; found == wanted, "{name}");
 }
 
 #[test]
-fn the_first_fault_of_a_trace_is_told(rt: HostRuntime) -> Result<(), Fail> {
+fn the_first_fault_of_a_trace_is_told(rt: HostRuntime) {
     let alloc = rt.alloc();
     for (name, numbers, size, fault) in FAULTS {
-        let bytes = bytes_of(alloc, numbers, *size)?;
+        let bytes = bytes_of(&rt, alloc, numbers, *size);
         check(&rt, alloc, name, &bytes, Err(*fault));
     }
-    let mut bytes = zeros(alloc, TRACE_LIMIT)?;
+    let mut bytes = zeros(&rt, alloc, TRACE_LIMIT);
     check(&rt, alloc, "2^20 steps", &bytes, Ok(1048577));
-    bytes.push(0)?;
-    check(
-        &rt,
-        alloc,
-        "a byte more than the limit",
-        &bytes,
-        Err(FileFault::TooMany),
-    );
-    bytes.extend_from_slice(HIGH)?;
-    check(
-        &rt,
-        alloc,
-        "a state more, with p and more",
-        &bytes,
-        Err(FileFault::TooMany),
-    );
-    Ok(())
+    bytes.push(0).expect(&rt, NO_MEMORY);
+    let too_many = Err(FileFault::TooMany);
+    check(&rt, alloc, "a byte more than the limit", &bytes, too_many);
+    bytes.extend_from_slice(HIGH).expect(&rt, NO_MEMORY);
+    let name = "a state more, with p and more";
+    check(&rt, alloc, name, &bytes, too_many);
 }

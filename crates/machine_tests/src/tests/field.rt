@@ -1,9 +1,16 @@
 //! Numbers of the field, their texts, and the order of cells.
+use super::{NO_MEMORY, check_text};
 use goldilocks::{Felt, PRIME, Pair, TextFault};
-use std::test::Fail;
+use std::alloc::{AllocError, Global};
+use std::process::Abort;
 
 /// p - 1, which is -1 in the field.
 const LAST: u64 = 18446744069414584320;
+
+/// The number of the field with this number, which is below p.
+fn felt(rt: &impl Abort, number: u64) -> Felt {
+    Felt::new(number).expect(rt, "the number is below p")
+}
 
 const BELOW_P: &[u64] = &[0, 1, 4294967295, LAST];
 
@@ -16,16 +23,13 @@ const FROM_P_ON: &[u64] = &[
 #[test]
 fn new_takes_the_numbers_below_p(rt: HostRuntime) {
     for number in BELOW_P {
-        assert_eq!(rt;
-            Felt::new(*number).map(|x| x.get()),
-            Some(*number),
-            "{number}"
-        );
+        let found = Felt::new(*number).map(|x| x.get());
+        assert!(rt; found == Some(*number), "{number}");
     }
     for number in FROM_P_ON {
-        assert_eq!(rt; Felt::new(*number), None, "{number}");
+        assert!(rt; Felt::new(*number).is_none(), "{number}");
     }
-    assert_eq!(rt; PRIME, 18446744069414584321);
+    assert!(rt; PRIME == 18446744069414584321);
 }
 
 /// a, b, a + b, a - b, a b
@@ -55,18 +59,13 @@ const SUMS_AND_PRODUCTS: &[(u64, u64, u64, u64, u64)] = &[
 #[test]
 fn sums_differences_and_products(rt: HostRuntime) {
     for (a, b, sum, difference, product) in SUMS_AND_PRODUCTS {
-        let a = Felt::new(*a).expect(&rt, "a is below p");
-        let b = Felt::new(*b).expect(&rt, "b is below p");
-        let found = [
-            a.add(b).get(),
-            a.sub(b).get(),
-            a.mul(b).get(),
-            a.neg().add(a).get(),
-        ];
-        assert_eq!(rt; found, [*sum, *difference, *product, 0], "{a:?}, {b:?}");
+        let (x, y) = (felt(&rt, *a), felt(&rt, *b));
+        let found = (x.add(y).get(), x.sub(y).get(), x.mul(y).get());
+        assert!(rt; found == (*sum, *difference, *product), "{a}, {b}");
+        assert!(rt; x.neg().add(x).get() == 0, "{a}");
     }
-    assert_eq!(rt; Felt::ZERO.neg().get(), 0);
-    assert_eq!(rt; Felt::ONE.neg().get(), LAST);
+    assert!(rt; Felt::ZERO.neg().get() == 0);
+    assert!(rt; Felt::ONE.neg().get() == LAST);
 }
 
 /// A whole number, and what it is modulo p.
@@ -97,10 +96,10 @@ const SIGNED: &[(i64, u64)] = &[
 #[test]
 fn whole_numbers_modulo_p(rt: HostRuntime) {
     for (number, remainder) in REMAINDERS {
-        assert_eq!(rt; Felt::of_u128(*number).get(), *remainder, "{number}");
+        assert!(rt; Felt::of_u128(*number).get() == *remainder, "{number}");
     }
     for (number, remainder) in SIGNED {
-        assert_eq!(rt; Felt::of_signed(*number).get(), *remainder, "{number}");
+        assert!(rt; Felt::of_signed(*number).get() == *remainder, "{number}");
     }
 }
 
@@ -146,17 +145,16 @@ const QUOTIENTS: &[(u64, u64, Option<u64>)] = &[
 #[test]
 fn powers_inverses_and_quotients(rt: HostRuntime) {
     for (base, exponent, power) in POWERS {
-        let base = Felt::new(*base).expect(&rt, "the base is below p");
-        assert_eq!(rt; base.pow(*exponent).get(), *power, "{base:?}");
+        let found = felt(&rt, *base).pow(*exponent).get();
+        assert!(rt; found == *power, "{base} to the {exponent}");
     }
     for (number, inverse) in INVERSES {
-        let number = Felt::new(*number).expect(&rt, "the number is below p");
-        assert_eq!(rt; number.inverse().map(|x| x.get()), *inverse, "{number:?}");
+        let found = felt(&rt, *number).inverse().map(|x| x.get());
+        assert!(rt; found == *inverse, "{number}");
     }
     for (a, d, quotient) in QUOTIENTS {
-        let a = Felt::new(*a).expect(&rt, "a is below p");
-        let d = Felt::new(*d).expect(&rt, "d is below p");
-        assert_eq!(rt; a.div(d).map(|x| x.get()), *quotient, "{a:?}");
+        let found = felt(&rt, *a).div(felt(&rt, *d)).map(|x| x.get());
+        assert!(rt; found == *quotient, "{a} by {d}");
     }
 }
 
@@ -200,8 +198,9 @@ const TEXTS: &[(&[u8], Result<u64, TextFault>)] = &[
 
 #[test]
 fn texts_are_read(rt: HostRuntime) {
-    for (text, want) in TEXTS {
-        assert_eq!(rt; Felt::read_text(text).map(|x| x.get()), *want, "{text:?}");
+    for (row, (text, want)) in TEXTS.iter().enumerate() {
+        let found = Felt::read_text(text).map(|x| x.get());
+        assert!(rt; found == *want, "row {row}");
     }
 }
 
@@ -213,12 +212,10 @@ const FAULTS: &[(TextFault, &str)] = &[
 ];
 
 #[test]
-fn faults_of_texts_print(rt: HostRuntime) -> Result<(), Fail> {
+fn faults_of_texts_print(rt: HostRuntime) {
     for (fault, want) in FAULTS {
-        let printed = format!(in rt.alloc(); "{fault}")?;
-        assert_eq!(rt; printed.as_str(), *want);
+        check_text(&rt, rt.alloc(), fault, want);
     }
-    Ok(())
 }
 
 /// A number, and what is written of it.
@@ -233,17 +230,21 @@ const WRITTEN: &[(u64, &[u8])] = &[
     (LAST, b"= 18446744069414584320 0xffffffff00000000"),
 ];
 
+/// What is written of a number, behind a text that is there before.
+fn written(alloc: Global, number: Felt) -> Result<Vec<u8>, AllocError> {
+    let mut out = b"= ".to_vec(alloc)?;
+    number.write_text(alloc, &mut out)?;
+    out.push(b' ')?;
+    number.write_hex(alloc, &mut out)?;
+    Ok(out)
+}
+
 #[test]
-fn texts_are_written(rt: HostRuntime) -> Result<(), Fail> {
+fn texts_are_written(rt: HostRuntime) {
     for (number, want) in WRITTEN {
-        let number = Felt::new(*number).expect(&rt, "the number is below p");
-        let mut out = b"= ".to_vec(rt.alloc())?;
-        number.write_text(rt.alloc(), &mut out)?;
-        out.push(b' ')?;
-        number.write_hex(rt.alloc(), &mut out)?;
-        assert_eq!(rt; out.as_slice(), *want, "{number:?}");
+        let found = written(rt.alloc(), felt(&rt, *number)).expect(&rt, NO_MEMORY);
+        assert!(rt; found.as_slice() == *want, "{number}");
     }
-    Ok(())
 }
 
 #[test]

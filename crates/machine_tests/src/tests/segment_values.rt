@@ -1,4 +1,5 @@
 //! Relocatable values, and the memory of a run.
+use super::{NO_MEMORY, check_text};
 use goldilocks::{Felt, PRIME};
 use segments::{
     ArithFault, Place, PutCause, PutFault, SEGMENT_LIMIT, Segments, Value, add_value, div_value,
@@ -6,7 +7,6 @@ use segments::{
 };
 use std::alloc::{AllocError, Global};
 use std::process::Abort;
-use std::test::Fail;
 
 /// A value in plain numbers: a number, or a pointer by its segment and offset.
 #[derive(Clone, Copy)]
@@ -88,7 +88,7 @@ fn computed(operation: Operation, a: Value, b: Value) -> Result<Value, ArithFaul
 fn sums_differences_products_and_quotients(rt: HostRuntime) {
     for (i, (operation, a, b, want)) in ARITHMETIC.iter().enumerate() {
         let found = computed(*operation, value_of(*a), value_of(*b));
-        assert_eq!(rt; found, want.map(value_of), "row {i}");
+        assert!(rt; found == want.map(value_of), "row {i}");
     }
 }
 
@@ -107,7 +107,7 @@ const SHIFTS: &[(u32, i16, Option<u32>)] = &[
 fn places_move(rt: HostRuntime) {
     for (off, by, want) in SHIFTS {
         let found = shift(at(7, *off), *by);
-        assert_eq!(rt; found, want.map(|off| at(7, off)), "{off}");
+        assert!(rt; found == want.map(|off| at(7, off)), "{off}");
     }
 }
 
@@ -171,25 +171,21 @@ const FAULTS: &[(ArithFault, &str)] = &[
 ];
 
 #[test]
-fn values_and_faults_print(rt: HostRuntime) -> Result<(), Fail> {
+fn values_and_faults_print(rt: HostRuntime) {
     let alloc = rt.alloc();
     for (plain, want) in VALUES {
-        let value = value_of(*plain);
-        assert_eq!(rt; format!(in alloc; "{value}")?.as_str(), *want);
+        check_text(&rt, alloc, &value_of(*plain), want);
     }
-    assert_eq!(rt; format!(in alloc; "{}", at(3, 0))?.as_str(), "3:0");
+    check_text(&rt, alloc, &at(3, 0), "3:0");
     for (refusal, want) in PUT_CAUSES {
         let cause = cause_of(*refusal);
-        assert_eq!(rt; format!(in alloc; "{cause}")?.as_str(), *want);
-        let fault = PutFault::from(cause);
-        assert_eq!(rt; format!(in alloc; "{fault}")?.as_str(), *want);
+        check_text(&rt, alloc, &cause, want);
+        check_text(&rt, alloc, &PutFault::from(cause), want);
     }
     for (fault, want) in FAULTS {
-        assert_eq!(rt; format!(in alloc; "{fault}")?.as_str(), *want);
+        check_text(&rt, alloc, fault, want);
     }
-    let memory = format!(in alloc; "{}", PutFault::from(AllocError))?;
-    assert_eq!(rt; memory.as_str(), "Memory");
-    Ok(())
+    check_text(&rt, alloc, &PutFault::from(AllocError), "Memory");
 }
 
 /// One call on segments, and its answer.
@@ -250,34 +246,37 @@ const CALLS: &[Step] = &[
 
 /// Compares the number of segments, each size and the total.
 fn check_sizes(rt: &impl Abort, s: &Segments, count: u32, want: &[u32; 3]) {
-    assert_eq!(rt; s.count(), count);
-    for seg in 0..s.count().min(3) {
-        assert_eq!(rt; s.size(seg), want[seg as usize], "{count} segments");
+    assert!(rt; s.count() == count, "{count} segments");
+    for seg in 0..count.min(3) {
+        assert!(rt;
+            s.size(seg) == want[seg as usize],
+            "{count} segments, size of {seg}"
+        );
     }
-    let total: u64 = want.iter().map(|size| u64::from(*size)).sum();
-    assert_eq!(rt; u64::from(s.total()), total);
+    let total = want[0] as u64 + want[1] as u64 + want[2] as u64;
+    assert!(rt; s.total() as u64 == total, "{count} segments, total");
+}
+
+/// One more segment, with this number.
+pub(crate) fn add_segment(rt: &impl Abort, alloc: Global, s: &mut Segments, want: u32) {
+    assert!(rt; s.count() < SEGMENT_LIMIT);
+    assert!(rt; s.add_segment(alloc) == Ok(want), "{want}");
 }
 
 /// Makes one call, and compares its answer.
 fn make(rt: &impl Abort, alloc: Global, s: &mut Segments, step: Step) {
     match step {
-        New(want) => {
-            assert!(rt; s.count() < SEGMENT_LIMIT);
-            assert_eq!(rt; s.add_segment(alloc), Ok(want));
-        }
+        New(want) => add_segment(rt, alloc, s, want),
         Put(seg, off, value, refusal) => {
             let want = match refusal {
                 None => Ok(()),
                 Some(refusal) => Err(PutFault::Refused(cause_of(refusal))),
             };
-            assert_eq!(rt;
-                s.put(alloc, at(seg, off), value_of(value)),
-                want,
-                "{seg}:{off}"
-            );
+            let answer = s.put(alloc, at(seg, off), value_of(value));
+            assert!(rt; answer == want, "{seg}:{off}");
         }
         Get(seg, off, want) => {
-            assert_eq!(rt; s.get(at(seg, off)), want.map(value_of), "{seg}:{off}");
+            assert!(rt; s.get(at(seg, off)) == want.map(value_of), "{seg}:{off}");
         }
         Sizes(count, want) => check_sizes(rt, s, count, &want),
     }
@@ -301,12 +300,11 @@ fn nine_words(alloc: Global) -> Result<Segments, AllocError> {
 }
 
 #[test]
-fn cells_are_written_once(rt: HostRuntime) -> Result<(), Fail> {
-    let mut s = nine_words(rt.alloc())?;
+fn cells_are_written_once(rt: HostRuntime) {
+    let mut s = nine_words(rt.alloc()).expect(&rt, NO_MEMORY);
     for step in CALLS {
         make(&rt, rt.alloc(), &mut s, *step);
     }
-    Ok(())
 }
 
 /// The last value of what was put and read: two million cells, one after another.
@@ -323,16 +321,27 @@ fn fill(alloc: Global, s: &mut Segments, seg: u32) -> Result<Option<Value>, PutF
 }
 
 #[test]
-fn two_million_cells(rt: HostRuntime) -> Result<(), Fail> {
-    let mut s = nine_words(rt.alloc())?;
+fn two_million_cells(rt: HostRuntime) {
+    let mut s = nine_words(rt.alloc()).expect(&rt, NO_MEMORY);
     for seg in 1..65538 {
-        assert!(rt; s.count() < SEGMENT_LIMIT);
-        assert_eq!(rt; s.add_segment(rt.alloc())?, seg);
+        add_segment(&rt, rt.alloc(), &mut s, seg);
     }
     let last = fill(rt.alloc(), &mut s, 65537);
-    assert_eq!(rt; last, Ok(Some(value_of(Num(1999999)))));
-    assert_eq!(rt; s.total(), 2000009);
-    Ok(())
+    assert!(rt; last == Ok(Some(value_of(Num(1999999)))));
+    assert!(rt; s.total() == 2000009);
+}
+
+/// Puts twenty cells into segment 1, one after another, and answers how many found memory. A cell that finds none isn't
+/// there.
+fn put_twenty(rt: &impl Abort, alloc: Global, s: &mut Segments) -> u32 {
+    for off in 0..20 {
+        if let Err(fault) = s.put(alloc, at(1, off), value_of(Ptr(0, off))) {
+            assert!(rt; fault == PutFault::Memory, "at {off}");
+            assert!(rt; s.get(at(1, off)).is_none(), "at {off}");
+            return off;
+        }
+    }
+    20
 }
 
 /// The calls that take memory, each of which may find none: then all is as before. `rt try --test --fail-alloc N` lets
@@ -348,17 +357,6 @@ fn want_of_memory_changes_nothing(rt: HostRuntime) {
         return;
     }
     check_sizes(&rt, &s, 2, &[9, 0, 0]);
-    let mut size = 0;
-    for off in 0..20 {
-        match s.put(rt.alloc(), at(1, off), value_of(Ptr(0, off))) {
-            Ok(()) => size = off + 1,
-            Err(fault) => {
-                assert_eq!(rt; fault, PutFault::Memory, "at {off}");
-                assert_eq!(rt; s.get(at(1, off)), None);
-                check_sizes(&rt, &s, 2, &[9, size, 0]);
-                return;
-            }
-        }
-    }
-    check_sizes(&rt, &s, 2, &[9, 20, 0]);
+    let size = put_twenty(&rt, rt.alloc(), &mut s);
+    check_sizes(&rt, &s, 2, &[9, size, 0]);
 }

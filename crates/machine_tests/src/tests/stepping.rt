@@ -2,9 +2,9 @@
 ghost use Rattle.std.specs.Prelude.{◌≡◌, ◌%◌, ◌==◌, find, option_map};
 ghost use Rattle.goldilocks.specs.Field.{prime};
 
+use super::check_text;
 use casm_word::{Reads, Shape, State, StepResult, WordFault, step};
 use goldilocks::{Felt, PRIME};
-use std::test::Fail;
 
 /// A number of the field.
 pub(crate) fn felt(number: u64) -> Felt
@@ -166,17 +166,17 @@ const STEPS: &[(&[(u64, u64)], Answer)] = &[
 
 #[test]
 fn steps_and_their_causes(rt: HostRuntime) {
-    for (cells, answer) in STEPS {
+    for (row, (cells, answer)) in STEPS.iter().enumerate() {
         let found = step(&Cells(cells), state((1, 10, 20)));
-        assert_eq!(rt; found, result_of(*answer), "{cells:?}");
+        assert!(rt; found == result_of(*answer), "row {row}");
     }
     // sums of addresses go past the last one, and below 0
     let around = Cells(&[(1, 0x4002800080007fff), (LAST, 9), (20, 30), (30, 9)]);
     let found = step(&around, state((1, 0, 20)));
-    assert_eq!(rt; found, result_of(Next(2, 0, 20)));
+    assert!(rt; found == result_of(Next(2, 0, 20)), "around");
     let at_end = Cells(&[(LAST, 0x00037fff7fff7fff), (19, 21), (20, 0)]);
     let found = step(&at_end, state((LAST, 10, 20)));
-    assert_eq!(rt; found, result_of(Next(0, 10, 20)));
+    assert!(rt; found == result_of(Next(0, 10, 20)), "at the end");
 }
 
 /// What a step comes to, and its text.
@@ -198,11 +198,8 @@ const CAUSES: &[(Answer, &str)] = &[
 ];
 
 #[test]
-fn causes_print(rt: HostRuntime) -> Result<(), Fail> {
+fn causes_print(rt: HostRuntime) {
     for (answer, text) in CAUSES {
-        let result = result_of(*answer);
-        let printed = format!(in rt.alloc(); "{result}")?;
-        assert_eq!(rt; printed.as_str(), *text);
+        check_text(&rt, rt.alloc(), &result_of(*answer), text);
     }
-    Ok(())
 }

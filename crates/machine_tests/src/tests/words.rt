@@ -61,8 +61,8 @@ fn decodes_and_encodes_words(rt: HostRuntime) {
             off_op1: *off_op1,
             flags: flags(bits),
         };
-        assert_eq!(rt; decode(*number), Ok(word), "{number:#x}");
-        assert_eq!(rt; encode(&word), *number);
+        assert!(rt; decode(*number) == Ok(word), "{number:#x}");
+        assert!(rt; encode(&word) == *number, "{number:#x}");
     }
 }
 
@@ -87,7 +87,7 @@ fn encodes_undefined_flags(rt: HostRuntime) {
             off_op1: *offset,
             flags: flags(bits),
         };
-        assert_eq!(rt; encode(&word), *number);
+        assert!(rt; encode(&word) == *number, "{number:#x}");
     }
 }
 
@@ -123,13 +123,10 @@ const BROKEN: &[(u64, Shape)] = &[
 fn tells_the_first_fault(rt: HostRuntime) {
     for (flags, shape) in BROKEN {
         let number = *flags << 48;
-        assert_eq!(rt;
-            decode(number),
-            Err(WordFault::Undefined(*shape)),
-            "{number:#x}"
-        );
+        let fault = decode(number);
+        assert!(rt; fault == Err(WordFault::Undefined(*shape)), "{number:#x}");
         let with_bit_63 = decode(number | 0x8000_0000_0000_0000);
-        assert_eq!(rt; with_bit_63, Err(WordFault::HighBit));
+        assert!(rt; with_bit_63 == Err(WordFault::HighBit), "{number:#x}");
     }
-    assert_eq!(rt; decode(0x8000_0000_0000_0000), Err(WordFault::HighBit));
+    assert!(rt; decode(0x8000_0000_0000_0000) == Err(WordFault::HighBit));
 }
