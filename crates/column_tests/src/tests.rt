@@ -12,7 +12,11 @@ mod sorted;
 mod worked_rows;
 
 use goldilocks::{Felt, PRIME, Pair};
-use std::alloc::{AllocError, Global};
+use std::alloc::Global;
+use std::process::Abort;
+
+/// What a test says that finds no memory.
+const NO_MEMORY: &str = "no memory";
 
 /// p - 1.
 const LAST: u64 = 18446744069414584320;
@@ -30,22 +34,20 @@ fn felt(number: u64) -> Felt
 }
 
 /// The values with these numbers.
-fn felts(alloc: Global, numbers: &[u64]) -> Result<Vec<Felt>, AllocError> {
+fn felts(rt: &impl Abort, alloc: Global, numbers: &[u64]) -> Vec<Felt> {
     let mut felts = Vec::new(alloc);
     for number in numbers {
-        felts.push(felt(*number))?;
+        felts.push(felt(*number)).expect(rt, NO_MEMORY);
     }
-    Ok(felts)
+    felts
 }
 
 /// The cells with these addresses and values.
-fn cells(alloc: Global, numbers: &[(u64, u64)]) -> Result<Vec<Pair>, AllocError> {
+fn cells(rt: &impl Abort, alloc: Global, numbers: &[(u64, u64)]) -> Vec<Pair> {
     let mut cells = Vec::new(alloc);
     for (addr, value) in numbers {
-        cells.push(Pair {
-            addr: felt(*addr),
-            value: felt(*value),
-        })?;
+        let (addr, value) = (felt(*addr), felt(*value));
+        cells.push(Pair { addr, value }).expect(rt, NO_MEMORY);
     }
-    Ok(cells)
+    cells
 }

@@ -3,3 +3,6 @@
 mod programs;
 mod statements;
 mod values;
+
+/// What a test says that finds no memory.
+const NO_MEMORY: &str = "no memory";

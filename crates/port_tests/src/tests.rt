@@ -10,7 +10,7 @@ use std::alloc::Global;
 use std::process::Abort;
 
 /// A call on a store, and what it must answer.
-#[derive(Drop)]
+#[derive(Clone, Copy)]
 enum Step<'a> {
     /// `begin_read` of a name.
     Begin(&'a str, Result<bool, PortError>),
@@ -22,20 +22,29 @@ enum Step<'a> {
 
 use Step::{Begin, Read, Replace};
 
+/// What a test says that finds no memory.
+const NO_MEMORY: &str = "no memory";
+
 const FAILED: Result<bool, PortError> = Err(PortError::Failed);
 
+/// Makes the calls one after another.
 fn follow<S: Store>(rt: &impl Abort, alloc: Global, row: &str, store: &mut S, steps: &[Step]) {
     for step in steps {
-        match step {
-            Begin(name, wanted) => {
-                let answer = store.begin_read(alloc, name);
-                assert_eq!(rt; answer, *wanted, "{row}");
-            }
-            Read(room, wanted) => read_step(rt, alloc, row, store, *room, *wanted),
-            Replace(name, bytes, wanted) => {
-                let answer = store.replace(alloc, name, bytes);
-                assert_eq!(rt; answer, *wanted, "{row}");
-            }
+        follow_step(rt, alloc, row, store, *step);
+    }
+}
+
+/// Makes one call, and compares its answer.
+fn follow_step<S: Store>(rt: &impl Abort, alloc: Global, row: &str, store: &mut S, step: Step) {
+    match step {
+        Begin(name, wanted) => {
+            let answer = store.begin_read(alloc, name);
+            assert!(rt; answer == wanted, "{row}");
+        }
+        Read(room, wanted) => read_step(rt, alloc, row, store, room, wanted),
+        Replace(name, bytes, wanted) => {
+            let answer = store.replace(alloc, name, bytes);
+            assert!(rt; answer == wanted, "{row}");
         }
     }
 }
@@ -56,5 +65,5 @@ fn read_step<S: Store>(
         Err(PortError::Failed) => None,
         Err(PortError::Memory) => panic!(rt; "{row}"),
     };
-    assert_eq!(rt; found, wanted, "{row}");
+    assert!(rt; found == wanted, "{row}");
 }

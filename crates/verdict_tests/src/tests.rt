@@ -16,10 +16,12 @@ use goldilocks::{Felt, PRIME, Pair};
 use program_file::{Builtins, Program};
 use public_input::Public;
 use runs::{Part, Run};
-use std::alloc::{AllocError, Global};
+use std::alloc::Global;
 use std::process::Abort;
-use std::test::Fail;
 use table_file::{Tables, read};
+
+/// What a test says that finds no memory.
+const NO_MEMORY: &str = "no memory";
 
 /// A run with its tables. The program is made of its words and places where it is taken.
 #[derive(Drop)]
@@ -58,69 +60,82 @@ fn state(numbers: (u64, u64, u64)) -> State {
     }
 }
 
-fn felts(alloc: Global, numbers: &[u64]) -> Result<Vec<Felt>, AllocError> {
+fn felts(rt: &impl Abort, alloc: Global, numbers: &[u64]) -> Vec<Felt> {
     let mut felts = Vec::new(alloc);
     for number in numbers {
-        felts.push(felt(*number))?;
+        felts.push(felt(*number)).expect(rt, NO_MEMORY);
     }
-    Ok(felts)
+    felts
 }
 
-fn pairs(alloc: Global, numbers: &[(u64, u64)]) -> Result<Vec<Pair>, AllocError> {
+fn pairs(rt: &impl Abort, alloc: Global, numbers: &[(u64, u64)]) -> Vec<Pair> {
     let mut pairs = Vec::new(alloc);
     for cell in numbers {
-        pairs.push(pair(*cell))?;
+        pairs.push(pair(*cell)).expect(rt, NO_MEMORY);
     }
-    Ok(pairs)
+    pairs
 }
 
-fn states(alloc: Global, numbers: &[(u64, u64, u64)]) -> Result<Vec<State>, AllocError> {
+fn states(rt: &impl Abort, alloc: Global, numbers: &[(u64, u64, u64)]) -> Vec<State> {
     let mut states = Vec::new(alloc);
     for registers in numbers {
-        states.push(state(*registers))?;
+        states.push(state(*registers)).expect(rt, NO_MEMORY);
     }
-    Ok(states)
+    states
+}
+
+/// Puts the bytes of a number behind the others.
+fn push_number(rt: &impl Abort, bytes: &mut Vec<u8>, number: u64) {
+    bytes
+        .extend_from_slice(&number.to_le_bytes())
+        .expect(rt, NO_MEMORY);
 }
 
 /// The bytes of a tables file with these numbers after its text.
-fn bytes_of(alloc: Global, parts: &[Part]) -> Result<Vec<u8>, AllocError> {
-    let mut bytes = Vec::from_slice(alloc, b"CAIROGT1")?;
+fn bytes_of(rt: &impl Abort, alloc: Global, parts: &[Part]) -> Vec<u8> {
+    let mut bytes = Vec::from_slice(alloc, b"CAIROGT1").expect(rt, NO_MEMORY);
     for part in parts {
         match part {
             Part::Numbers(numbers) => {
                 for number in *numbers {
-                    bytes.extend_from_slice(&number.to_le_bytes())?;
+                    push_number(rt, &mut bytes, *number);
                 }
             }
             Part::Climb(first, end) => {
                 for number in *first..*end {
-                    bytes.extend_from_slice(&number.to_le_bytes())?;
+                    push_number(rt, &mut bytes, number);
                 }
             }
         }
     }
-    Ok(bytes)
+    bytes
+}
+
+/// The public input of the run.
+fn public_of(rt: &impl Abort, alloc: Global, run: &Run) -> Public {
+    Public {
+        steps: run.steps,
+        ap_first: felt(run.ends.0),
+        ap_last: felt(run.ends.1),
+        rc_min: run.limits.0,
+        rc_max: run.limits.1,
+        range_begin: felt(run.range.0),
+        range_count: run.range.1,
+        cells: pairs(rt, alloc, run.shown),
+    }
 }
 
 /// The run of these numbers.
-fn files_of(alloc: Global, run: &Run) -> Result<Files, Fail> {
-    Ok(Files {
-        words: felts(alloc, run.words)?,
+fn files_of(rt: &impl Abort, alloc: Global, run: &Run) -> Files {
+    let bytes = bytes_of(rt, alloc, run.tables);
+    Files {
+        words: felts(rt, alloc, run.words),
         places: run.places,
-        public: Public {
-            steps: run.steps,
-            ap_first: felt(run.ends.0),
-            ap_last: felt(run.ends.1),
-            rc_min: run.limits.0,
-            rc_max: run.limits.1,
-            range_begin: felt(run.range.0),
-            range_count: run.range.1,
-            cells: pairs(alloc, run.shown)?,
-        },
-        states: states(alloc, run.states)?,
-        cells: pairs(alloc, run.cells)?,
-        tables: read(alloc, &bytes_of(alloc, run.tables)?)?,
-    })
+        public: public_of(rt, alloc, run),
+        states: states(rt, alloc, run.states),
+        cells: pairs(rt, alloc, run.cells),
+        tables: read(alloc, &bytes).expect(rt, "the tables are read"),
+    }
 }
 
 /// The program of these words.

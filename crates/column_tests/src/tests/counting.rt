@@ -1,10 +1,10 @@
 //! The calls that count where they can, and sort where they can't: both ways come to the same answer.
 
-use super::{Cells, LAST, cells, felts};
-use memory_columns::{MemoryColumns, memory_fault, sort_columns};
+use super::memory::{check_columns, columns_of, memory};
+use super::{Cells, LAST, NO_MEMORY, cells, felts};
+use memory_columns::memory_fault;
 use range_columns::range_fault;
 use sorted_lists::order_difference;
-use std::test::Fail;
 
 /// A name, two lists of cells, and the first place where they differ in order.
 type Difference = (&'static str, Cells, Cells, Option<usize>);
@@ -84,14 +84,13 @@ const DIFFERENCES: &[Difference] = &[
 ];
 
 #[test]
-fn cells_are_compared_in_order(rt: HostRuntime) -> Result<(), Fail> {
+fn cells_are_compared_in_order(rt: HostRuntime) {
     for (name, left, right, place) in DIFFERENCES {
-        let left = cells(rt.alloc(), left)?;
-        let right = cells(rt.alloc(), right)?;
-        let found = order_difference(rt.alloc(), left, &right)?;
+        let left = cells(&rt, rt.alloc(), left);
+        let right = cells(&rt, rt.alloc(), right);
+        let found = order_difference(rt.alloc(), left, &right).expect(&rt, NO_MEMORY);
         assert!(rt; found == *place, "{name}");
     }
-    Ok(())
 }
 
 /// A name, the accesses, the sorted pairs, and the row at which M3 fails.
@@ -145,15 +144,14 @@ const MEMORIES: &[Memory] = &[
 ];
 
 #[test]
-fn accesses_are_compared_in_order(rt: HostRuntime) -> Result<(), Fail> {
+fn accesses_are_compared_in_order(rt: HostRuntime) {
     for (name, accesses, sorted, row) in MEMORIES {
-        let accesses = cells(rt.alloc(), accesses)?;
-        let sorted = cells(rt.alloc(), sorted)?;
-        let found = memory_fault(rt.alloc(), accesses, &sorted)?;
+        let accesses = cells(&rt, rt.alloc(), accesses);
+        let sorted = cells(&rt, rt.alloc(), sorted);
+        let found = memory_fault(rt.alloc(), accesses, &sorted).expect(&rt, NO_MEMORY);
         let fault = row.map(|row| (3, row));
         assert!(rt; found.map(|f| (f.number, f.row)) == fault, "{name}");
     }
-    Ok(())
 }
 
 /// A name, the values, the sorted ones from the least to the greatest, these two, and the row at which Q4 fails.
@@ -185,16 +183,15 @@ const RANGES: &[Range] = &[
 ];
 
 #[test]
-fn values_are_compared_in_order(rt: HostRuntime) -> Result<(), Fail> {
+fn values_are_compared_in_order(rt: HostRuntime) {
     for (name, values, sorted, min, max, row) in RANGES {
-        let values = felts(rt.alloc(), values)?;
-        let sorted = felts(rt.alloc(), sorted)?;
+        let values = felts(&rt, rt.alloc(), values);
+        let sorted = felts(&rt, rt.alloc(), sorted);
         assert!(rt; !sorted.is_empty() && *min <= *max && *max < 65536);
-        let found = range_fault(rt.alloc(), values, &sorted, *min, *max)?;
+        let found = range_fault(rt.alloc(), values, &sorted, *min, *max).expect(&rt, NO_MEMORY);
         let fault = row.map(|row| (4, row));
         assert!(rt; found.map(|f| (f.number, f.row)) == fault, "{name}");
     }
-    Ok(())
 }
 
 /// A name, the accesses, the fillers between them, and all of them in order.
@@ -235,18 +232,10 @@ const COLUMNS: &[Columns] = &[
 ];
 
 #[test]
-fn accesses_are_put_in_order(rt: HostRuntime) -> Result<(), Fail> {
-    let nothing = MemoryColumns {
-        fill: Vec::new(rt.alloc()),
-        sorted: Vec::new(rt.alloc()),
-    };
+fn accesses_are_put_in_order(rt: HostRuntime) {
+    let nothing = memory(&rt, rt.alloc(), &[]);
     for (name, accesses, fill, sorted) in COLUMNS {
-        let accesses = cells(rt.alloc(), accesses)?;
-        assert!(rt; !accesses.is_empty());
-        let columns = sort_columns(rt.alloc(), accesses, &nothing)?;
-        let fill = cells(rt.alloc(), fill)?;
-        let sorted = cells(rt.alloc(), sorted)?;
-        assert!(rt; columns.fill == fill && columns.sorted == sorted, "{name}");
+        let columns = columns_of(&rt, rt.alloc(), accesses, &nothing);
+        check_columns(&rt, rt.alloc(), name, &columns, fill, sorted);
     }
-    Ok(())
 }

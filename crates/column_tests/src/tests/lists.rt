@@ -1,11 +1,12 @@
 //! The lists of accesses and of small values.
 
-use super::{Cells, LAST, cells, felt, felts};
+use super::{Cells, LAST, NO_MEMORY, cells, felt, felts};
 use access_lists::{Accesses, SmallValues};
 use cpu_rows::Row;
 use goldilocks::{Felt, Pair};
 use range_columns::RangeRow;
-use std::test::Fail;
+use std::alloc::Global;
+use std::process::Abort;
 
 /// The row whose values are `first` and the 32 numbers after it.
 fn row(first: u64) -> Row {
@@ -49,12 +50,12 @@ const ACCESSES: Cells = &[
 ];
 
 #[test]
-fn accesses_part_by_part(rt: HostRuntime) -> Result<(), Fail> {
+fn accesses_part_by_part(rt: HostRuntime) {
     let rows = [row(100), row(200)];
     let range_rows = [range_row(40, 1, 2, 3), range_row(50, 4, 5, 6)];
-    let words = felts(rt.alloc(), &[61, 62, 63])?;
-    let public_cells = cells(rt.alloc(), &[(7, 70), (9, 90)])?;
-    let fillers = cells(rt.alloc(), &[(4, 44), (5, 0)])?;
+    let words = felts(&rt, rt.alloc(), &[61, 62, 63]);
+    let public_cells = cells(&rt, rt.alloc(), &[(7, 70), (9, 90)]);
+    let fillers = cells(&rt, rt.alloc(), &[(4, 44), (5, 0)]);
     let all = Accesses {
         rows: &rows,
         range_begin: felt(LAST),
@@ -63,7 +64,7 @@ fn accesses_part_by_part(rt: HostRuntime) -> Result<(), Fail> {
         public_cells: &public_cells,
         fillers: &fillers,
     };
-    assert!(rt; all.to_vec(rt.alloc())? == cells(rt.alloc(), ACCESSES)?);
+    check_accesses(&rt, rt.alloc(), &all, ACCESSES);
     let none: &[Pair] = &[];
     let words_alone = Accesses {
         rows: &[],
@@ -73,10 +74,16 @@ fn accesses_part_by_part(rt: HostRuntime) -> Result<(), Fail> {
         public_cells: none,
         fillers: none,
     };
-    assert!(rt;
-        words_alone.to_vec(rt.alloc())? == cells(rt.alloc(), &[(1, 61), (2, 62), (3, 63)])?
-    );
-    Ok(())
+    check_accesses(&rt, rt.alloc(), &words_alone, WORDS);
+}
+
+/// The three words alone.
+const WORDS: Cells = &[(1, 61), (2, 62), (3, 63)];
+
+/// Compares the list of accesses with these cells.
+fn check_accesses(rt: &impl Abort, alloc: Global, accesses: &Accesses, wanted: Cells) {
+    let found = accesses.to_vec(alloc).expect(rt, NO_MEMORY);
+    assert!(rt; found == cells(rt, alloc, wanted), "{wanted:?}");
 }
 
 /// The offsets of the row from 100 and of the row from 200, which are columns 20 to 22. Then come the limbs of two range
@@ -84,15 +91,15 @@ fn accesses_part_by_part(rt: HostRuntime) -> Result<(), Fail> {
 const SMALL_VALUES: &[u64] = &[120, 121, 122, 220, 221, 222, 1, 2, 3, 4, 5, 6, 11, 12];
 
 #[test]
-fn small_values_part_by_part(rt: HostRuntime) -> Result<(), Fail> {
+fn small_values_part_by_part(rt: HostRuntime) {
     let rows = [row(100), row(200)];
     let range_rows = [range_row(40, 1, 2, 3), range_row(50, 4, 5, 6)];
-    let fillers = felts(rt.alloc(), &[11, 12])?;
+    let fillers = felts(&rt, rt.alloc(), &[11, 12]);
     let all = SmallValues {
         rows: &rows,
         range_rows: &range_rows,
         fillers: &fillers,
     };
-    assert!(rt; all.to_vec(rt.alloc())? == felts(rt.alloc(), SMALL_VALUES)?);
-    Ok(())
+    let found = all.to_vec(rt.alloc()).expect(&rt, NO_MEMORY);
+    assert!(rt; found == felts(&rt, rt.alloc(), SMALL_VALUES));
 }

@@ -1,16 +1,16 @@
 //! The columns of the memory.
 
-use super::{Cells, LAST, cells, felt};
+use super::{Cells, LAST, NO_MEMORY, cells, felt};
 use memory_columns::{FILLER_LIMIT, MemoryColumns, SortFault, memory_fault, sort_columns};
-use std::alloc::{AllocError, Global};
-use std::test::Fail;
+use std::alloc::Global;
+use std::process::Abort;
 
 /// A memory with these cells.
-fn memory(alloc: Global, numbers: &[(u64, u64)]) -> Result<MemoryColumns, AllocError> {
-    Ok(MemoryColumns {
+pub fn memory(rt: &impl Abort, alloc: Global, numbers: &[(u64, u64)]) -> MemoryColumns {
+    MemoryColumns {
         fill: Vec::new(alloc),
-        sorted: cells(alloc, numbers)?,
-    })
+        sorted: cells(rt, alloc, numbers),
+    }
 }
 
 /// A name, the accesses, the sorted pairs, and the number and row of the first failure.
@@ -113,52 +113,82 @@ const FAULTS: &[Fault] = &[
 ];
 
 #[test]
-fn the_first_failure_of_the_memory(rt: HostRuntime) -> Result<(), Fail> {
+fn the_first_failure_of_the_memory(rt: HostRuntime) {
     for (name, accesses, sorted, fault) in FAULTS {
-        let accesses = cells(rt.alloc(), accesses)?;
-        let sorted = cells(rt.alloc(), sorted)?;
-        let found = memory_fault(rt.alloc(), accesses, &sorted)?;
+        let accesses = cells(&rt, rt.alloc(), accesses);
+        let sorted = cells(&rt, rt.alloc(), sorted);
+        let found = memory_fault(rt.alloc(), accesses, &sorted).expect(&rt, NO_MEMORY);
         assert!(rt; found.map(|f| (f.number, f.row)) == *fault, "{name}");
     }
-    Ok(())
 }
 
 /// What a memory holds from which fillers are taken.
 const HELD: Cells = &[(1, 5), (2, 6), (4, 8)];
 
-/// Accesses, their fillers, and all of them in order.
-const SORTED: &[(Cells, Cells, Cells)] = &[
+/// A name, accesses, their fillers, and all of them in order.
+const SORTED: &[(&str, Cells, Cells, Cells)] = &[
     (
+        "two cells",
         &[(1, 5), (4, 8)],
         &[(2, 6), (3, 0)],
         &[(1, 5), (2, 6), (3, 0), (4, 8)],
     ),
     (
+        "a cell twice",
         &[(4, 8), (1, 5), (4, 8)],
         &[(2, 6), (3, 0)],
         &[(1, 5), (2, 6), (3, 0), (4, 8), (4, 8)],
     ),
-    (&[(7, 1)], &[], &[(7, 1)]),
-    (&[(2, 6), (1, 5)], &[], &[(1, 5), (2, 6)]),
-    // exactly one filler
-    (&[(3, 9), (1, 5)], &[(2, 6)], &[(1, 5), (2, 6), (3, 9)]),
+    ("one cell", &[(7, 1)], &[], &[(7, 1)]),
+    ("neighbours", &[(2, 6), (1, 5)], &[], &[(1, 5), (2, 6)]),
+    (
+        "exactly one filler",
+        &[(3, 9), (1, 5)],
+        &[(2, 6)],
+        &[(1, 5), (2, 6), (3, 9)],
+    ),
 ];
 
+/// The columns of these accesses, with fillers from what is held.
+pub fn columns_of(
+    rt: &impl Abort,
+    alloc: Global,
+    accesses: Cells,
+    held: &MemoryColumns,
+) -> MemoryColumns {
+    let accesses = cells(rt, alloc, accesses);
+    assert!(rt; !accesses.is_empty());
+    sort_columns(alloc, accesses, held).expect(rt, "the columns are made")
+}
+
+/// Compares the fillers and the sorted pairs with these cells.
+pub fn check_columns(
+    rt: &impl Abort,
+    alloc: Global,
+    name: &str,
+    columns: &MemoryColumns,
+    fill: Cells,
+    sorted: Cells,
+) {
+    assert!(rt; columns.fill == cells(rt, alloc, fill), "{name}, fillers");
+    assert!(rt;
+        columns.sorted == cells(rt, alloc, sorted),
+        "{name}, sorted"
+    );
+}
+
 #[test]
-fn fillers_and_sorted_pairs(rt: HostRuntime) -> Result<(), Fail> {
-    let held = memory(rt.alloc(), HELD)?;
-    for (numbers, fill, sorted) in SORTED {
-        let accesses = cells(rt.alloc(), numbers)?;
-        assert!(rt; !accesses.is_empty());
-        let columns = sort_columns(rt.alloc(), accesses, &held)?;
-        assert!(rt; columns.fill == cells(rt.alloc(), fill)?, "{numbers:?}");
-        assert!(rt; columns.sorted == cells(rt.alloc(), sorted)?, "{numbers:?}");
-        let mut all = cells(rt.alloc(), numbers)?;
-        all.extend_from_slice(&columns.fill)?;
-        let fault = memory_fault(rt.alloc(), all, &columns.sorted)?;
-        assert!(rt; fault.is_none(), "{numbers:?}");
+fn fillers_and_sorted_pairs(rt: HostRuntime) {
+    let alloc = rt.alloc();
+    let held = memory(&rt, alloc, HELD);
+    for (name, numbers, fill, sorted) in SORTED {
+        let columns = columns_of(&rt, alloc, numbers, &held);
+        check_columns(&rt, alloc, name, &columns, fill, sorted);
+        let mut all = cells(&rt, alloc, numbers);
+        all.extend_from_slice(&columns.fill).expect(&rt, NO_MEMORY);
+        let fault = memory_fault(alloc, all, &columns.sorted).expect(&rt, NO_MEMORY);
+        assert!(rt; fault.is_none(), "{name}");
     }
-    Ok(())
 }
 
 /// Cells with exactly as many addresses between them as there may be fillers.
@@ -168,19 +198,16 @@ const WIDEST: Cells = &[(0, 0), (2097153, 0)];
 const TOO_WIDE: Cells = &[(2097154, 0), (0, 0)];
 
 #[test]
-fn the_most_fillers(rt: HostRuntime) -> Result<(), Fail> {
-    let held = memory(rt.alloc(), HELD)?;
-    let widest = cells(rt.alloc(), WIDEST)?;
-    assert!(rt; !widest.is_empty());
-    let columns = sort_columns(rt.alloc(), widest, &held)?;
-    assert_eq!(rt; columns.fill.len(), 2097152);
-    assert_eq!(rt; FILLER_LIMIT, 2097152);
-    let too_wide = cells(rt.alloc(), TOO_WIDE)?;
+fn the_most_fillers(rt: HostRuntime) {
+    let held = memory(&rt, rt.alloc(), HELD);
+    let columns = columns_of(&rt, rt.alloc(), WIDEST, &held);
+    assert!(rt; columns.fill.len() == 2097152);
+    assert!(rt; FILLER_LIMIT == 2097152);
+    let too_wide = cells(&rt, rt.alloc(), TOO_WIDE);
     assert!(rt; !too_wide.is_empty());
     let fault = sort_columns(rt.alloc(), too_wide, &held).err();
     let (least, greatest) = (felt(0), felt(2097154));
     assert!(rt; fault == Some(SortFault::TooWide { least, greatest }));
-    Ok(())
 }
 
 /// Cells of which two lie at one address.
@@ -190,11 +217,10 @@ const TWICE: Cells = &[(LAST, 7), (0, 9), (0, 8)];
 const READS: &[(u64, Option<u64>)] = &[(LAST, Some(7)), (0, Some(9)), (1, None), (5, None)];
 
 #[test]
-fn the_first_place_is_read(rt: HostRuntime) -> Result<(), Fail> {
-    let columns = memory(rt.alloc(), TWICE)?;
+fn the_first_place_is_read(rt: HostRuntime) {
+    let columns = memory(&rt, rt.alloc(), TWICE);
     for (address, value) in READS {
         let found = columns.read(felt(*address));
         assert!(rt; found.map(|v| v.number) == *value, "{address}");
     }
-    Ok(())
 }

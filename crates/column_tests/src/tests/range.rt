@@ -3,10 +3,11 @@
 ghost use Rattle.std.specs.Prelude.{IsTrue, All};
 ghost use Rattle.range_columns.specs.Equations.{IsWithin};
 
-use super::{felt, felts};
+use super::{NO_MEMORY, felt, felts};
 use goldilocks::Felt;
-use range_columns::{RangeRow, limb_fault, range_fault, sort_range, split};
-use std::test::Fail;
+use range_columns::{RangeColumns, RangeRow, limb_fault, range_fault, sort_range, split};
+use std::alloc::Global;
+use std::process::Abort;
 
 /// A number, and its limbs where it has three.
 const SPLITS: &[(u64, Option<[u64; 3]>)] = &[
@@ -69,50 +70,67 @@ const LIMBS: &[Limbs] = &[
 ];
 
 #[test]
-fn values_are_those_of_their_limbs(rt: HostRuntime) -> Result<(), Fail> {
+fn values_are_those_of_their_limbs(rt: HostRuntime) {
     for (name, of, fault) in LIMBS {
         let mut rows = Vec::new(rt.alloc());
         for values in *of {
-            rows.push(row(values))?;
+            rows.push(row(values)).expect(&rt, NO_MEMORY);
         }
         assert!(rt; limb_fault(&rows) == *fault, "{name}");
     }
-    Ok(())
 }
 
-/// Values, the least and the greatest, the fillers, and all of them in order.
-type Sorted = (&'static [u64], u32, u32, &'static [u64], &'static [u64]);
+/// A name, values, the least and the greatest, the fillers, and all of them in order.
+type Sorted = (
+    &'static str,
+    &'static [u64],
+    u32,
+    u32,
+    &'static [u64],
+    &'static [u64],
+);
 
 const SORTED: &[Sorted] = &[
-    (&[5, 8, 5], 5, 8, &[6, 7], &[5, 5, 6, 7, 8]),
-    (&[7], 7, 7, &[], &[7]),
-    (&[6, 5], 4, 7, &[4, 7], &[4, 5, 6, 7]),
-    // exactly one filler
-    (&[7, 5], 5, 7, &[6], &[5, 6, 7]),
+    ("a value twice", &[5, 8, 5], 5, 8, &[6, 7], &[5, 5, 6, 7, 8]),
+    ("one value", &[7], 7, 7, &[], &[7]),
+    ("fillers outside", &[6, 5], 4, 7, &[4, 7], &[4, 5, 6, 7]),
+    ("exactly one filler", &[7, 5], 5, 7, &[6], &[5, 6, 7]),
 ];
 
+/// The columns of these values.
+fn columns_of(rt: &impl Abort, alloc: Global, values: &[u64], min: u32, max: u32) -> RangeColumns {
+    let values = felts(rt, alloc, values);
+    assert!(rt; min <= max && max < 65536);
+    assert!(rt; all_within(&values, min, max));
+    sort_range(alloc, values, min, max).expect(rt, NO_MEMORY)
+}
+
+/// Looks at the columns of a row: the fillers, all values in order, and that they meet the equations.
+fn check_sorted(rt: &impl Abort, alloc: Global, row: &Sorted) {
+    let (name, numbers, min, max, fill, sorted) = *row;
+    let columns = columns_of(rt, alloc, numbers, min, max);
+    assert!(rt; columns.fill == felts(rt, alloc, fill), "{name}, fillers");
+    assert!(rt;
+        columns.sorted == felts(rt, alloc, sorted),
+        "{name}, sorted"
+    );
+    let mut all = felts(rt, alloc, numbers);
+    all.extend_from_slice(&columns.fill).expect(rt, NO_MEMORY);
+    assert!(rt; !columns.sorted.is_empty() && min <= max && max < 65536);
+    let fault = range_fault(alloc, all, &columns.sorted, min, max).expect(rt, NO_MEMORY);
+    assert!(rt; fault.is_none(), "{name}, the first failure");
+}
+
 #[test]
-fn fillers_and_sorted_values(rt: HostRuntime) -> Result<(), Fail> {
-    let found = sort_range(rt.alloc(), Vec::new(rt.alloc()), 3, 4)?;
-    assert!(rt; found.fill == felts(rt.alloc(), &[3, 4])?);
-    for (numbers, min, max, fill, sorted) in SORTED {
-        let given = felts(rt.alloc(), numbers)?;
-        assert!(rt; *min <= *max && *max < 65536);
-        assert!(rt; all_within(&given, *min, *max));
-        let columns = sort_range(rt.alloc(), given, *min, *max)?;
-        assert!(rt; columns.fill == felts(rt.alloc(), fill)?, "{numbers:?}");
-        assert!(rt; columns.sorted == felts(rt.alloc(), sorted)?, "{numbers:?}");
-        let mut all = felts(rt.alloc(), numbers)?;
-        all.extend_from_slice(&columns.fill)?;
-        assert!(rt; !columns.sorted.is_empty());
-        let fault = range_fault(rt.alloc(), all, &columns.sorted, *min, *max)?;
-        assert!(rt; fault.is_none(), "{numbers:?}");
+fn fillers_and_sorted_values(rt: HostRuntime) {
+    let alloc = rt.alloc();
+    for row in SORTED {
+        check_sorted(&rt, alloc, row);
     }
-    let ends = felts(rt.alloc(), &[65535, 0])?;
-    assert!(rt; all_within(&ends, 0, 65535));
-    let columns = sort_range(rt.alloc(), ends, 0, 65535)?;
-    assert_eq!(rt; columns.fill.len(), 65534);
-    Ok(())
+    let found = columns_of(&rt, alloc, &[], 3, 4);
+    assert!(rt; found.fill == felts(&rt, alloc, &[3, 4]));
+    let ends = columns_of(&rt, alloc, &[65535, 0], 0, 65535);
+    assert!(rt; ends.fill.len() == 65534);
 }
 
 /// Whether all values lie in the range.
@@ -194,13 +212,12 @@ const FAULTS: &[Fault] = &[
 ];
 
 #[test]
-fn the_first_failure_of_the_range(rt: HostRuntime) -> Result<(), Fail> {
+fn the_first_failure_of_the_range(rt: HostRuntime) {
     for (name, numbers, sorted, min, max, fault) in FAULTS {
-        let given = felts(rt.alloc(), numbers)?;
-        let sorted = felts(rt.alloc(), sorted)?;
+        let given = felts(&rt, rt.alloc(), numbers);
+        let sorted = felts(&rt, rt.alloc(), sorted);
         assert!(rt; !sorted.is_empty() && *min <= *max && *max < 65536);
-        let found = range_fault(rt.alloc(), given, &sorted, *min, *max)?;
+        let found = range_fault(rt.alloc(), given, &sorted, *min, *max).expect(&rt, NO_MEMORY);
         assert!(rt; found.map(|f| (f.number, f.row)) == *fault, "{name}");
     }
-    Ok(())
 }

@@ -12,6 +12,7 @@ use super::worked_rows::{
 use casm_word::{Reads, State};
 use cpu_rows::{Row, build_row, first_fault, row_fault};
 use goldilocks::{Felt, PRIME};
+use std::process::Abort;
 
 /// The 33 values of a row, and then the next state's pc, ap and fp.
 type Values = [u64; 36];
@@ -45,9 +46,10 @@ fn next(values: &Values) -> State {
     }
 }
 
-/// The least equation that fails for these values.
-fn fault(values: &Values) -> Option<u8> {
-    row_fault(&row(values), next(values))
+/// Compares the least equation that fails for these values.
+fn check_fault(rt: &impl Abort, name: &str, values: &Values, wanted: Option<u8>) {
+    let found = row_fault(&row(values), next(values));
+    assert!(rt; found == wanted, "{name}");
 }
 
 /// Rows that meet all equations.
@@ -63,15 +65,24 @@ const WORKED: &[&[&str]] = &[
 fn worked_rows_meet_the_equations(rt: HostRuntime) {
     for table in WORKED {
         for text in *table {
-            assert!(rt; fault(&values(text)).is_none(), "{text}");
+            check_fault(&rt, text, &values(text), None);
         }
     }
     let mut wrong_t1 = values(JUMP_TAKEN[1]);
     wrong_t1[32] = 2;
-    assert!(rt; fault(&wrong_t1) == Some(24), "t1 is 2");
+    check_fault(&rt, "t1 is 2", &wrong_t1, Some(24));
     let mut wrong_pc = values(FOUR_STEPS[3]);
     wrong_pc[33] = 6;
-    assert!(rt; fault(&wrong_pc) == Some(26), "next pc is 6");
+    check_fault(&rt, "next pc is 6", &wrong_pc, Some(26));
+}
+
+/// The values of the first of the four steps, where the one at this place is raised by 1.
+fn raised(place: usize) -> Values {
+    let mut values = values(FOUR_STEPS[0]);
+    if let Some(value) = values.get_mut(place) {
+        *value = (*value % PRIME) + 1;
+    }
+    values
 }
 
 /// Rows with the least equation that fails.
@@ -80,17 +91,25 @@ const FAILING: &[&[(u8, &str)]] = &[LEAST, BOTH_RES_FLAGS, CALLS_THAT_MOVE_AP, A
 #[test]
 fn tells_the_least_that_fails(rt: HostRuntime) {
     for (place, (name, number)) in RAISED.iter().enumerate() {
-        let mut raised = values(FOUR_STEPS[0]);
-        if place < 36 {
-            raised[place] = (raised[place] % PRIME) + 1;
-        }
-        assert!(rt; fault(&raised).unwrap_or(0) == *number, "{name} raised");
+        let wanted = if *number == 0 { None } else { Some(*number) };
+        check_fault(&rt, name, &raised(place), wanted);
     }
     for table in FAILING {
         for (number, text) in *table {
-            assert!(rt; fault(&values(text)) == Some(*number), "{text}");
+            check_fault(&rt, text, &values(text), Some(*number));
         }
     }
+}
+
+/// Compares the first row that fails, and its least equation.
+fn check_first(
+    rt: &impl Abort,
+    name: &str,
+    rows: &[Row],
+    last: State,
+    wanted: Option<(usize, u8)>,
+) {
+    assert!(rt; first_fault(rows, last) == wanted, "{name}");
 }
 
 #[test]
@@ -102,26 +121,21 @@ fn tells_the_first_row(rt: HostRuntime) {
         row(&values(FOUR_STEPS[2])),
         row(&values(FOUR_STEPS[3])),
     ];
-    assert!(rt; first_fault(&rows, last).is_none(), "four steps");
-    assert!(rt; first_fault(&[], last).is_none(), "no rows");
+    check_first(&rt, "four steps", &rows, last, None);
+    check_first(&rt, "no rows", &[], last, None);
     let other = State {
         pc: felt(6),
         ap: last.ap,
         fp: last.fp,
     };
-    assert!(rt; first_fault(&rows, other) == Some((3, 26)), "last pc is 6");
+    check_first(&rt, "last pc is 6", &rows, other, Some((3, 26)));
     let mut with_mul = rows;
     with_mul[1].mul = felt(21);
     with_mul[2].t1 = felt(1);
-    assert!(rt;
-        first_fault(&with_mul, other) == Some((1, 21)),
-        "mul raised"
-    );
+    check_first(&rt, "mul raised", &with_mul, other, Some((1, 21)));
     let swapped = [rows[0], rows[2]];
-    assert!(rt;
-        first_fault(&swapped, rows[3].state()) == Some((0, 26)),
-        "a row is missing"
-    );
+    let last = rows[3].state();
+    check_first(&rt, "a row is missing", &swapped, last, Some((0, 26)));
 }
 
 /// A memory by its list of cells.

@@ -3,10 +3,9 @@
 ghost use Rattle.std.specs.Prelude.{IsTrue, All, ◌≤◌};
 ghost use Rattle.std.specs.List.Sorted.{IsNonDecreasingBy};
 
-use super::{LAST, felt, felts};
+use super::{LAST, NO_MEMORY, felt, felts};
 use goldilocks::Felt;
 use sorted_lists::{climbs, first_difference, gap_count, gaps, order_difference};
-use std::test::Fail;
 
 /// A number, the next one, and whether that is a climb.
 const CLIMBS: &[(u64, u64, bool)] = &[
@@ -25,7 +24,7 @@ const CLIMBS: &[(u64, u64, bool)] = &[
 #[test]
 fn neighbours_climb_by_zero_or_one(rt: HostRuntime) {
     for (from, to, answer) in CLIMBS {
-        assert_eq!(rt; climbs(felt(*from), felt(*to)), *answer, "{from} {to}");
+        assert!(rt; climbs(felt(*from), felt(*to)) == *answer, "{from} {to}");
     }
 }
 
@@ -50,17 +49,15 @@ const DIFFERENCES: &[Difference] = &[
 ];
 
 #[test]
-fn lists_are_compared_in_order(rt: HostRuntime) -> Result<(), Fail> {
-    for (left, right, as_they_are, in_order) in DIFFERENCES {
-        assert!(rt;
-            first_difference(left, right) == *as_they_are,
-            "{left:?} {right:?}"
-        );
-        let values = felts(rt.alloc(), left)?;
-        let found = order_difference(rt.alloc(), values, &felts(rt.alloc(), right)?)?;
-        assert!(rt; found == *in_order, "{left:?} {right:?} in order");
+fn lists_are_compared_in_order(rt: HostRuntime) {
+    for (row, (left, right, as_they_are, in_order)) in DIFFERENCES.iter().enumerate() {
+        let found = first_difference(left, right);
+        assert!(rt; found == *as_they_are, "row {row}, as they are");
+        let left = felts(&rt, rt.alloc(), left);
+        let right = felts(&rt, rt.alloc(), right);
+        let found = order_difference(rt.alloc(), left, &right).expect(&rt, NO_MEMORY);
+        assert!(rt; found == *in_order, "row {row}, in order");
     }
-    Ok(())
 }
 
 /// Keys in order, the least and the greatest number, and the numbers between that are no key.
@@ -77,28 +74,27 @@ const GAPS: &[Gaps] = &[
 ];
 
 #[test]
-fn numbers_that_are_no_key(rt: HostRuntime) -> Result<(), Fail> {
-    for (keys, low, high, between) in GAPS {
-        let items = sorted_values(felts(rt.alloc(), keys)?);
+fn numbers_that_are_no_key(rt: HostRuntime) {
+    for (row, (keys, low, high, between)) in GAPS.iter().enumerate() {
+        let items = sorted_values(felts(&rt, rt.alloc(), keys));
         let (low, high) = (felt(*low), felt(*high));
-        assert!(rt; low.number <= high.number);
-        assert!(rt; all_between(&items, low, high));
-        assert_eq!(rt;
-            gap_count(&items, low, high),
-            between.len() as u64,
-            "{keys:?}"
-        );
-        let found = gaps(rt.alloc(), &items, low, high)?;
-        assert!(rt; found == felts(rt.alloc(), between)?, "{keys:?}");
+        assert!(rt; low.number <= high.number && all_between(&items, low, high));
+        let count = gap_count(&items, low, high);
+        assert!(rt; count == between.len() as u64, "row {row}, count");
+        let found = gaps(rt.alloc(), &items, low, high).expect(&rt, NO_MEMORY);
+        assert!(rt; found == felts(&rt, rt.alloc(), between), "row {row}");
     }
+}
+
+#[test]
+fn a_hundred_numbers_that_are_no_key(rt: HostRuntime) {
     let none: &[Felt] = &[];
-    assert_eq!(rt; gap_count(none, felt(0), felt(99)), 100);
-    let found = gaps(rt.alloc(), none, felt(0), felt(99))?;
+    assert!(rt; gap_count(none, felt(0), felt(99)) == 100);
+    let found = gaps(rt.alloc(), none, felt(0), felt(99)).expect(&rt, NO_MEMORY);
     for (number, gap) in found.iter().enumerate() {
-        assert_eq!(rt; gap.number, number as u64);
+        assert!(rt; gap.number == number as u64, "{number}");
     }
-    assert_eq!(rt; found.len(), 100);
-    Ok(())
+    assert!(rt; found.len() == 100);
 }
 
 /// The values in order.

@@ -1,11 +1,12 @@
 //! Program files: their faults, and what is read and written.
 
+use super::NO_MEMORY;
 use goldilocks::Felt;
 use program_file::{
     Builtins, PROGRAM_LIMIT, PROGRAM_WORD_LIMIT, Program, ProgramFault, read, write,
 };
 use std::alloc::{AllocError, Global};
-use std::test::Fail;
+use std::process::Abort;
 
 /// Texts, and what is printed of reading them: the fault, or `program`.
 const FAULTS: &[(&str, &str)] = &[
@@ -548,18 +549,26 @@ fn printed(alloc: Global, bytes: &[u8]) -> Result<String, AllocError> {
     }
 }
 
+/// Compares what is printed of reading these bytes.
+fn check_printed(rt: &impl Abort, alloc: Global, name: &str, bytes: &[u8], wanted: &str) {
+    let found = printed(alloc, bytes).expect(rt, NO_MEMORY);
+    assert!(rt; found.as_str() == wanted, "{name}");
+}
+
+/// Bytes that are no text.
+const NO_TEXT: &[u8] = b"{\"prime\":\"\xff\"}";
+
 #[test]
-fn faults_of_program_files(rt: HostRuntime) -> Result<(), Fail> {
+fn faults_of_program_files(rt: HostRuntime) {
     let alloc = rt.alloc();
     for (text, fault) in FAULTS {
-        let found = printed(alloc, text.as_bytes())?;
-        assert!(rt; found.as_str() == *fault, "{text}");
+        check_printed(&rt, alloc, text, text.as_bytes(), fault);
     }
-    assert!(rt; printed(alloc, b"{\"prime\":\"\xff\"}")?.as_str() == "Json");
+    check_printed(&rt, alloc, "no text", NO_TEXT, "Json");
     for (fault, text) in OTHER_FAULTS {
-        assert!(rt; fault.to_string(alloc)?.as_str() == *text);
+        let found = fault.to_string(alloc).expect(&rt, NO_MEMORY);
+        assert!(rt; found.as_str() == *text, "{text}");
     }
-    Ok(())
 }
 
 /// What the program has.
@@ -580,34 +589,32 @@ fn shown(program: &Program) -> Shown {
 }
 
 #[test]
-fn programs_are_read_and_written(rt: HostRuntime) -> Result<(), Fail> {
+fn programs_are_read_and_written(rt: HostRuntime) {
     let alloc = rt.alloc();
     for (text, expected, is_written) in PROGRAMS {
-        let program = read(alloc, text.as_bytes())?;
+        let program = read(alloc, text.as_bytes()).expect(&rt, "a program is read");
         assert!(rt; shown(&program) == *expected, "{text}");
-        let bytes = write(alloc, &program)?;
+        let bytes = write(alloc, &program).expect(&rt, NO_MEMORY);
         let same = bytes.as_slice() == text.as_bytes();
-        assert!(rt; same == *is_written, "{text}");
+        assert!(rt; same == *is_written, "{text}, written");
     }
-    Ok(())
 }
 
 #[test]
-fn programs_keep_their_bounds(rt: HostRuntime) -> Result<(), Fail> {
+fn programs_keep_their_bounds(rt: HostRuntime) {
     let builtins = Builtins {
         output: false,
         range: true,
     };
     for (count, start, end, is_program) in BOUNDS {
-        let words = vec![in rt.alloc(); Felt::ONE; *count]?;
+        let words = vec![in rt.alloc(); Felt::ONE; *count].expect(&rt, NO_MEMORY);
         let program = Program::new(words, *start, *end, builtins);
         let found = program.as_ref().map(shown);
         let expected = (*count, 1, 1, *start, *end, false, true);
         assert!(rt; found == is_program.then_some(expected), "{count}");
     }
-    assert_eq!(rt; PROGRAM_WORD_LIMIT, 262144);
-    assert_eq!(rt; PROGRAM_LIMIT, 16777216);
-    Ok(())
+    assert!(rt; PROGRAM_WORD_LIMIT == 262144);
+    assert!(rt; PROGRAM_LIMIT == 16777216);
 }
 
 /// A program file of so many words, which are 0 but for the first one, and with this end.
@@ -624,12 +631,10 @@ fn long_file(alloc: Global, count: usize, first: &str, end: &str) -> Result<Stri
 }
 
 #[test]
-fn files_at_the_limit_of_words(rt: HostRuntime) -> Result<(), Fail> {
+fn files_at_the_limit_of_words(rt: HostRuntime) {
     let alloc = rt.alloc();
     for (count, first, end, fault) in LENGTHS {
-        let text = long_file(alloc, *count, first, end)?;
-        let found = printed(alloc, text.as_bytes())?;
-        assert!(rt; found.as_str() == *fault, "{fault}");
+        let text = long_file(alloc, *count, first, end).expect(&rt, NO_MEMORY);
+        check_printed(&rt, alloc, fault, text.as_bytes(), fault);
     }
-    Ok(())
 }

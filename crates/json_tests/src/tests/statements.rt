@@ -1,11 +1,12 @@
 //! Public files: their faults, and what is read and written.
 
+use super::NO_MEMORY;
 use public_input::{
     PUBLIC_CELL_LIMIT, PUBLIC_LIMIT, Public, PublicFault, RANGE_CELL_LIMIT, SMALL_LIMIT,
     STEP_LIMIT, read, write,
 };
 use std::alloc::{AllocError, Global};
-use std::test::Fail;
+use std::process::Abort;
 
 /// Files as they are written, the numbers in the order of the fields, and the cells.
 const FILES: &[(&str, [u64; 7], &[[u64; 2]])] = &[
@@ -267,22 +268,37 @@ fn numbers_of(p: &Public) -> [u64; 7] {
 }
 
 #[test]
-fn files_are_read_and_written(rt: HostRuntime) -> Result<(), Fail> {
+fn files_are_read_and_written(rt: HostRuntime) {
     for (text, numbers, cells) in FILES {
-        let p = read(rt.alloc(), text.as_bytes())?;
-        assert!(rt; numbers_of(&p) == *numbers, "{text}");
-        assert!(rt; p.cells.len() == cells.len(), "{text}");
+        let p = read(rt.alloc(), text.as_bytes()).expect(&rt, "a public file is read");
+        assert!(rt; numbers_of(&p) == *numbers, "{text}, numbers");
+        assert!(rt; p.cells.len() == cells.len(), "{text}, how many cells");
         for (cell, numbers) in p.cells.iter().zip(*cells) {
-            assert!(rt; [cell.addr.number, cell.value.number] == *numbers, "{text}");
+            let found = [cell.addr.number, cell.value.number];
+            assert!(rt; found == *numbers, "{text}, cells");
         }
-        let out = write(rt.alloc(), &p)?;
-        assert!(rt; out.as_slice() == text.as_bytes(), "{text}");
+        let out = write(rt.alloc(), &p).expect(&rt, NO_MEMORY);
+        assert!(rt; out.as_slice() == text.as_bytes(), "{text}, written");
     }
-    Ok(())
+}
+
+/// Compares how reading ends.
+fn check_ending(rt: &impl Abort, alloc: Global, name: &str, bytes: &[u8], wanted: &str) {
+    let found = ending(alloc, bytes).expect(rt, NO_MEMORY);
+    assert!(rt; found.as_str() == wanted, "{name}");
+}
+
+/// These texts, one after another.
+fn joined(alloc: Global, texts: &[&str]) -> Result<String, AllocError> {
+    let mut all = String::new(alloc);
+    for text in texts {
+        all.push_str(text)?;
+    }
+    Ok(all)
 }
 
 /// A file of [`MEMBERS`] and then another member. Of equal keys the last one counts.
-fn ending_with(alloc: Global, last: &str) -> Result<String, AllocError> {
+fn file_with(alloc: Global, last: &str) -> Result<String, AllocError> {
     let mut text = String::from_str(alloc, "{")?;
     for member in MEMBERS {
         text.push_str(member)?;
@@ -290,11 +306,11 @@ fn ending_with(alloc: Global, last: &str) -> Result<String, AllocError> {
     }
     text.push_str(last)?;
     text.push_str("}")?;
-    ending(alloc, text.as_bytes())
+    Ok(text)
 }
 
 /// A file of [`MEMBERS`] but for those from one place up to another.
-fn ending_without(alloc: Global, from: usize, to: usize) -> Result<String, AllocError> {
+fn file_without(alloc: Global, from: usize, to: usize) -> Result<String, AllocError> {
     let mut text = String::from_str(alloc, r#"{"end":9"#)?;
     for (place, member) in MEMBERS.iter().enumerate() {
         if place < from || to <= place {
@@ -303,36 +319,41 @@ fn ending_without(alloc: Global, from: usize, to: usize) -> Result<String, Alloc
         }
     }
     text.push_str("}")?;
-    ending(alloc, text.as_bytes())
+    Ok(text)
+}
+
+/// Compares how reading a file ends that has this member last.
+fn check_last(rt: &impl Abort, alloc: Global, last: &str, wanted: &str) {
+    let text = file_with(alloc, last).expect(rt, NO_MEMORY);
+    check_ending(rt, alloc, last, text.as_bytes(), wanted);
+}
+
+/// Compares how reading a file ends in which these members are missing.
+fn check_missing(rt: &impl Abort, alloc: Global, key: &str, from: usize, to: usize, wanted: &str) {
+    let text = file_without(alloc, from, to).expect(rt, NO_MEMORY);
+    check_ending(rt, alloc, key, text.as_bytes(), wanted);
 }
 
 #[test]
-fn each_key_is_there_and_of_its_kind(rt: HostRuntime) -> Result<(), Fail> {
+fn each_key_is_there_and_of_its_kind(rt: HostRuntime) {
     let alloc = rt.alloc();
     for (place, key) in KEYS.iter().enumerate() {
-        let fault = format!(in alloc; "Key {key}")?;
+        let fault = joined(alloc, &["Key ", key]).expect(&rt, NO_MEMORY);
         // it is missing, alone and with all those after it
-        let alone = ending_without(alloc, place, place + 1)?;
-        let others = ending_without(alloc, place, 8)?;
-        assert!(rt;
-            alone.as_str() == fault.as_str() && others.as_str() == fault.as_str(),
-            "{key}"
-        );
+        check_missing(&rt, alloc, key, place, place + 1, &fault);
+        check_missing(&rt, alloc, key, place, 8, &fault);
         for form in WRONG_KINDS {
-            let last = format!(in alloc; "\"{key}\":{form}")?;
-            let end = ending_with(alloc, &last)?;
-            assert!(rt; end.as_str() == fault.as_str(), "{last}");
+            let last = joined(alloc, &["\"", key, "\":", form]).expect(&rt, NO_MEMORY);
+            check_last(&rt, alloc, &last, &fault);
         }
     }
-    Ok(())
 }
 
 #[test]
-fn members_and_their_endings(rt: HostRuntime) -> Result<(), Fail> {
+fn members_and_their_endings(rt: HostRuntime) {
     for (last, end) in ENDINGS {
-        assert!(rt; ending_with(rt.alloc(), last)?.as_str() == *end, "{last}");
+        check_last(&rt, rt.alloc(), last, end);
     }
-    Ok(())
 }
 
 /// As many lists, one in another.
@@ -348,16 +369,16 @@ fn nested(alloc: Global, depth: usize) -> Result<Vec<u8>, AllocError> {
 }
 
 #[test]
-fn other_json_and_no_json(rt: HostRuntime) -> Result<(), Fail> {
+fn other_json_and_no_json(rt: HostRuntime) {
     let alloc = rt.alloc();
-    for (bytes, end) in OTHER_BYTES {
-        assert!(rt; ending(alloc, bytes)?.as_str() == *end, "{bytes:?}");
+    for (row, (bytes, end)) in OTHER_BYTES.iter().enumerate() {
+        let found = ending(alloc, bytes).expect(&rt, NO_MEMORY);
+        assert!(rt; found.as_str() == *end, "row {row}");
     }
     for (depth, end) in DEPTHS {
-        let bytes = nested(alloc, *depth)?;
-        assert!(rt; ending(alloc, &bytes)?.as_str() == *end, "{depth}");
+        let bytes = nested(alloc, *depth).expect(&rt, NO_MEMORY);
+        check_ending(&rt, alloc, end, &bytes, end);
     }
-    Ok(())
 }
 
 /// The member `cells` with so many entries, at the addresses from 1 on, of which the last is given.
@@ -373,17 +394,22 @@ fn cells(alloc: Global, count: usize, last: &str) -> Result<String, AllocError> 
 }
 
 #[test]
-fn files_at_the_limit_of_cells(rt: HostRuntime) -> Result<(), Fail> {
+fn files_at_the_limit_of_cells(rt: HostRuntime) {
     let alloc = rt.alloc();
     for (count, last, end) in COUNTS {
-        let member = cells(alloc, *count, last)?;
-        assert!(rt; ending_with(alloc, &member)?.as_str() == *end, "{last}");
+        let member = cells(alloc, *count, last).expect(&rt, NO_MEMORY);
+        let text = file_with(alloc, &member).expect(&rt, NO_MEMORY);
+        check_ending(&rt, alloc, last, text.as_bytes(), end);
     }
-    assert_eq!(rt; STEP_LIMIT, 1048576);
-    assert_eq!(rt; RANGE_CELL_LIMIT, 262144);
-    assert_eq!(rt; PUBLIC_CELL_LIMIT, 262144);
-    assert_eq!(rt; SMALL_LIMIT, 65536);
-    assert_eq!(rt; PUBLIC_LIMIT, 33554432);
-    assert!(rt; PublicFault::Memory.to_string(alloc)?.as_str() == "Memory");
-    Ok(())
+    let memory = PublicFault::Memory.to_string(alloc).expect(&rt, NO_MEMORY);
+    assert!(rt; memory.as_str() == "Memory");
+}
+
+#[test]
+fn limits_of_public_files(rt: HostRuntime) {
+    assert!(rt; STEP_LIMIT == 1048576);
+    assert!(rt; RANGE_CELL_LIMIT == 262144);
+    assert!(rt; PUBLIC_CELL_LIMIT == 262144);
+    assert!(rt; SMALL_LIMIT == 65536);
+    assert!(rt; PUBLIC_LIMIT == 33554432);
 }

@@ -1,5 +1,6 @@
 //! JSON values: what stands in them, and what is written of numbers and pairs.
 
+use super::NO_MEMORY;
 use goldilocks::{Felt, Pair};
 use json::Writer;
 use json_fields::{
@@ -7,9 +8,8 @@ use json_fields::{
     write_pairs,
 };
 use serde_json::Value;
-use std::alloc::Global;
+use std::alloc::{AllocError, Global};
 use std::process::Abort;
-use std::test::Fail;
 
 /// 127 lists in one another.
 const DEEP: &[u8] =
@@ -98,9 +98,10 @@ const PAIRS: &[(&str, Option<(u64, u64)>)] = &[
     (r#""0xa""#, None),
 ];
 
-fn value_of(rt: &impl Abort, alloc: Global, text: &str) -> Result<Value, Fail> {
-    let value = read_json(alloc, text.as_bytes())?;
-    Ok(value.expect(rt, "the text is JSON"))
+/// The value that a text is.
+fn value_of(rt: &impl Abort, alloc: Global, text: &str) -> Value {
+    let value = read_json(alloc, text.as_bytes()).expect(rt, NO_MEMORY);
+    value.expect(rt, "the text is JSON")
 }
 
 /// The number of the field with this number.
@@ -109,58 +110,52 @@ fn felt(rt: &impl Abort, number: u64) -> Felt {
 }
 
 #[test]
-fn which_bytes_are_json(rt: HostRuntime) -> Result<(), Fail> {
-    for (bytes, is_json) in TEXTS {
-        let found = read_json(rt.alloc(), bytes)?.is_some();
-        assert!(rt; found == *is_json, "{bytes:?}");
+fn which_bytes_are_json(rt: HostRuntime) {
+    for (row, (bytes, is_json)) in TEXTS.iter().enumerate() {
+        let found = read_json(rt.alloc(), bytes).expect(&rt, NO_MEMORY);
+        assert!(rt; found.is_some() == *is_json, "row {row}");
     }
-    Ok(())
 }
 
 #[test]
-fn whole_numbers_and_equal_keys(rt: HostRuntime) -> Result<(), Fail> {
+fn whole_numbers_and_equal_keys(rt: HostRuntime) {
     for (text, number) in WHOLE_NUMBERS {
-        let top = value_of(&rt, rt.alloc(), text)?;
+        let top = value_of(&rt, rt.alloc(), text);
         assert!(rt; whole_at(&top, "a") == *number, "{text}");
     }
-    Ok(())
 }
 
 #[test]
-fn texts_lists_and_numbers_of_the_field(rt: HostRuntime) -> Result<(), Fail> {
+fn texts_lists_and_numbers_of_the_field(rt: HostRuntime) {
     for (text, found, number) in FIELD_TEXTS {
-        let top = value_of(&rt, rt.alloc(), text)?;
+        let top = value_of(&rt, rt.alloc(), text);
         let same = text_at(&top, "a") == *found;
         let equal = felt_at(&top, "a").map(|x| x.number) == *number;
         assert!(rt; same && equal, "{text}");
     }
-    let top = value_of(&rt, rt.alloc(), r#"{"a":[1,[],null],"b":{}}"#)?;
+    let top = value_of(&rt, rt.alloc(), r#"{"a":[1,[],null],"b":{}}"#);
     assert!(rt; list_at(&top, "a").map(|entries| entries.len()) == Some(3));
     assert!(rt; list_at(&top, "b").is_none());
     assert!(rt; list_at(&top, "c").is_none());
-    Ok(())
 }
 
 #[test]
-fn pairs_and_entries(rt: HostRuntime) -> Result<(), Fail> {
+fn pairs_and_entries(rt: HostRuntime) {
     for (text, pair) in PAIRS {
-        let value = value_of(&rt, rt.alloc(), text)?;
+        let value = value_of(&rt, rt.alloc(), text);
         let found = pair_in(&value).map(|p| (p.addr.number, p.value.number));
         assert!(rt; found == *pair, "{text}");
     }
-    let value = value_of(&rt, rt.alloc(), r#""0x19""#)?;
+    let value = value_of(&rt, rt.alloc(), r#""0x19""#);
     assert!(rt; felt_in(&value).map(|x| x.number) == Some(25));
-    Ok(())
 }
 
-#[test]
-fn what_is_written(rt: HostRuntime) -> Result<(), Fail> {
-    let alloc = rt.alloc();
-    let last = felt(&rt, 18446744069414584320);
+/// What is written of `last`, of two lists of numbers and of two pairs.
+fn written(alloc: Global, last: Felt, other: Felt) -> Result<Vec<u8>, AllocError> {
     let mut out = Writer::new(Vec::new(alloc));
     out.begin_array()?;
     write_felt(alloc, &mut out, last)?;
-    write_felts(alloc, &mut out, &[Felt::ZERO, felt(&rt, 171)])?;
+    write_felts(alloc, &mut out, &[Felt::ZERO, other])?;
     write_felts(alloc, &mut out, &[])?;
     let pair = Pair {
         addr: Felt::ONE,
@@ -168,8 +163,15 @@ fn what_is_written(rt: HostRuntime) -> Result<(), Fail> {
     };
     write_pairs(alloc, &mut out, &[pair, pair])?;
     out.end_array()?;
-    let expected: &[u8] =
-        b"[\"0xffffffff00000000\",[\"0x0\",\"0xab\"],[],[[\"0x1\",\"0xffffffff00000000\"],[\"0x1\",\"0xffffffff00000000\"]]]";
-    assert_eq!(rt; out.into_inner().as_slice(), expected);
-    Ok(())
+    Ok(out.into_inner())
+}
+
+const WRITTEN: &[u8] =
+    b"[\"0xffffffff00000000\",[\"0x0\",\"0xab\"],[],[[\"0x1\",\"0xffffffff00000000\"],[\"0x1\",\"0xffffffff00000000\"]]]";
+
+#[test]
+fn what_is_written(rt: HostRuntime) {
+    let (last, other) = (felt(&rt, 18446744069414584320), felt(&rt, 171));
+    let found = written(rt.alloc(), last, other).expect(&rt, NO_MEMORY);
+    assert!(rt; found.as_slice() == WRITTEN);
 }

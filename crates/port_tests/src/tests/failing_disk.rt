@@ -1,12 +1,13 @@
 //! Real files on a disk that fails at listed calls, in ways that a test can't make a real disk fail.
-use super::Step::{self, Begin, Read as Take, Replace};
-use super::real_files::{count_files, new_folder};
-use super::{FAILED, follow};
+use super::Step::{Begin, Read as Take, Replace};
+use super::real_files::{
+    check_count, check_file, link_file, new_folder, path, remove_folder, write_file,
+};
+use super::{FAILED, follow_step};
 use file_port::{DiskStore, PortError};
 use std::alloc::Allocator;
-use std::fs::{self, File, Metadata, OpenFile, OpenOptions, Permissions};
+use std::fs::{File, Metadata, OpenFile, OpenOptions, Permissions};
 use std::io::{self, ErrorKind, Read, Seek, SeekFrom, Write};
-use std::os::unix::fs::symlink;
 use std::rt::Files;
 use std::test::Fail;
 
@@ -203,47 +204,41 @@ const READS: &[(&str, Faults, &[Option<&'static [u8]>])] = &[
     ),
 ];
 
+/// A store on a disk with these faults.
+fn store_with(rt: HostRuntime, faults: Faults) -> DiskStore<FailingDisk> {
+    DiskStore::new(FailingDisk { rt, faults })
+}
+
 #[test]
 fn reads_are_tried_again_or_fail(rt: HostRuntime) -> Result<(), Fail> {
+    let alloc = rt.alloc();
     let folder = new_folder(&rt, "/port_tests_reads_")?;
-    let name = format!(in rt.alloc(); "{folder}/two")?;
-    fs::write(&rt, name.as_str(), b"ab")?;
+    let name = path(&rt, alloc, &folder, "/two");
+    write_file(&rt, &name, b"ab");
     for (row, faults, reads) in READS {
-        let mut store = DiskStore::new(FailingDisk {
-            rt,
-            faults: *faults,
-        });
-        follow(&rt, rt.alloc(), row, &mut store, &[Begin(&name, Ok(true))]);
+        let mut store = store_with(rt, *faults);
+        follow_step(&rt, alloc, row, &mut store, Begin(&name, Ok(true)));
         for wanted in *reads {
-            follow(&rt, rt.alloc(), row, &mut store, &[Take(4, *wanted)]);
+            follow_step(&rt, alloc, row, &mut store, Take(4, *wanted));
         }
     }
-    fs::remove_dir_all(&rt, folder.as_str())?;
+    remove_folder(&rt, &folder);
     Ok(())
 }
 
-/// A fault of opening, and what begins then.
-const BEGINS: &[(Faults, Result<bool, PortError>)] = &[
-    (NO_FAULT, Ok(false)),
-    ((Fault::Denied, Fault::Nothing), FAILED),
-    ((Fault::Strange, Fault::Nothing), FAILED),
+/// A fault of opening, and what begins then with a file that is missing.
+const BEGINS: &[(&str, Faults, Result<bool, PortError>)] = &[
+    ("none", NO_FAULT, Ok(false)),
+    ("no permission", (Fault::Denied, Fault::Nothing), FAILED),
+    ("another reason", (Fault::Strange, Fault::Nothing), FAILED),
 ];
 
 #[test]
 fn what_is_missing_is_no_fault(rt: HostRuntime) {
-    for (faults, wanted) in BEGINS {
-        let mut store = DiskStore::new(FailingDisk {
-            rt,
-            faults: *faults,
-        });
-        let steps: [Step; 1] = [Begin("no folder/gone", *wanted)];
-        follow(
-            &rt,
-            rt.alloc(),
-            "a file that is missing",
-            &mut store,
-            &steps,
-        );
+    for (row, faults, wanted) in BEGINS {
+        let mut store = store_with(rt, *faults);
+        let step = Begin("no folder/gone", *wanted);
+        follow_step(&rt, rt.alloc(), row, &mut store, step);
     }
 }
 
@@ -259,20 +254,16 @@ const BESIDE: &[(&str, Faults)] = &[
 #[test]
 fn a_failed_replace_leaves_the_file_and_no_other(rt: HostRuntime) -> Result<(), Fail> {
     let folder = new_folder(&rt, "/port_tests_failed_")?;
-    let kept = format!(in rt.alloc(); "{folder}/kept")?;
-    fs::write(&rt, kept.as_str(), b"old")?;
+    let kept = path(&rt, rt.alloc(), &folder, "/kept");
+    write_file(&rt, &kept, b"old");
     for (row, faults) in BESIDE {
-        let mut store = DiskStore::new(FailingDisk {
-            rt,
-            faults: *faults,
-        });
-        let steps = [Replace(&kept, b"new", Err(PortError::Failed))];
-        follow(&rt, rt.alloc(), row, &mut store, &steps);
-        let bytes = fs::read(&rt, kept.as_str())?;
-        assert_eq!(rt; bytes.as_slice(), b"old".as_slice(), "{row}");
-        assert_eq!(rt; count_files(&rt, &folder)?, 1);
+        let mut store = store_with(rt, *faults);
+        let step = Replace(&kept, b"new", Err(PortError::Failed));
+        follow_step(&rt, rt.alloc(), row, &mut store, step);
+        check_file(&rt, row, &kept, b"old");
+        check_count(&rt, row, &folder, 1);
     }
-    fs::remove_dir_all(&rt, folder.as_str())?;
+    remove_folder(&rt, &folder);
     Ok(())
 }
 
@@ -315,24 +306,16 @@ const IN_PLACE: &[(&str, Faults, Result<(), PortError>)] = &[
 #[test]
 fn faults_in_place_are_told(rt: HostRuntime) -> Result<(), Fail> {
     let folder = new_folder(&rt, "/port_tests_in_place_")?;
-    let kept = format!(in rt.alloc(); "{folder}/kept")?;
-    let link = format!(in rt.alloc(); "{folder}/link")?;
-    fs::write(&rt, kept.as_str(), b"old")?;
-    symlink(&rt, kept.as_str(), link.as_str())?;
+    let kept = path(&rt, rt.alloc(), &folder, "/kept");
+    let link = path(&rt, rt.alloc(), &folder, "/link");
+    write_file(&rt, &kept, b"old");
+    link_file(&rt, &kept, &link);
     for (row, faults, wanted) in IN_PLACE {
-        let mut store = DiskStore::new(FailingDisk {
-            rt,
-            faults: *faults,
-        });
-        follow(
-            &rt,
-            rt.alloc(),
-            row,
-            &mut store,
-            &[Replace(&link, b"new", *wanted)],
-        );
+        let mut store = store_with(rt, *faults);
+        let step = Replace(&link, b"new", *wanted);
+        follow_step(&rt, rt.alloc(), row, &mut store, step);
     }
-    assert_eq!(rt; count_files(&rt, &folder)?, 2);
-    fs::remove_dir_all(&rt, folder.as_str())?;
+    check_count(&rt, "the file and the link", &folder, 2);
+    remove_folder(&rt, &folder);
     Ok(())
 }

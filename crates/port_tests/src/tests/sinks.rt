@@ -1,10 +1,10 @@
 //! Sinks in memory, the standard output, and an output that is full.
+use super::NO_MEMORY;
 use file_port::{MemorySink, OutSink, PortError, Sink, SureSink};
 use std::alloc::{AllocError, Global};
 use std::fmt::Display;
 use std::io::{self, ErrorKind};
 use std::process::Abort;
-use std::test::Fail;
 
 const FAILED: Result<(), PortError> = Err(PortError::Failed);
 
@@ -13,7 +13,7 @@ type Put = (&'static [u8], Result<(), PortError>);
 
 fn put_all<K: Sink>(rt: &impl Abort, alloc: Global, row: &str, sink: &mut K, puts: &[Put]) {
     for (bytes, wanted) in puts {
-        assert_eq!(rt; sink.put(alloc, bytes), *wanted, "{row}");
+        assert!(rt; sink.put(alloc, bytes) == *wanted, "{row}");
     }
 }
 
@@ -54,17 +54,17 @@ const FAILING_PUTS: &[(&str, &[u32], &[Put], &[u8])] = &[
 const SURE_PUTS: &[Put] = &[(b"ab", Ok(())), (b"c", Ok(()))];
 
 #[test]
-fn sinks_in_memory_append(rt: HostRuntime) -> Result<(), Fail> {
+fn sinks_in_memory_append(rt: HostRuntime) {
     let alloc = rt.alloc();
     for (row, fails, puts, written) in FAILING_PUTS {
-        let mut sink = MemorySink::new(alloc, Vec::from_slice(alloc, fails)?);
+        let fails = Vec::from_slice(alloc, fails).expect(&rt, NO_MEMORY);
+        let mut sink = MemorySink::new(alloc, fails);
         put_all(&rt, alloc, row, &mut sink, puts);
-        assert_eq!(rt; sink.bytes(), *written, "{row}");
+        assert!(rt; sink.bytes() == *written, "{row}");
     }
     let mut sure = SureSink::new(alloc);
     put_all(&rt, alloc, "sure", &mut sure, SURE_PUTS);
-    assert_eq!(rt; sure.bytes(), b"abc".as_slice());
-    Ok(())
+    assert!(rt; sure.bytes() == b"abc".as_slice(), "sure");
 }
 
 /// An output that is full.
@@ -103,11 +103,11 @@ fn out_sink_prints(rt: HostRuntime) {
 }
 
 #[test]
-fn errors_print(rt: HostRuntime) -> Result<(), Fail> {
+fn errors_print(rt: HostRuntime) {
     let alloc = rt.alloc();
-    let failed = format!(in alloc; "{}", PortError::Failed)?;
-    assert_eq!(rt; failed.as_str(), "the files or the output failed");
-    let memory = format!(in alloc; "{}", PortError::from(AllocError))?;
-    assert_eq!(rt; memory.as_str(), "out of memory");
-    Ok(())
+    let failed = PortError::Failed.to_string(alloc).expect(&rt, NO_MEMORY);
+    assert!(rt; failed.as_str() == "the files or the output failed");
+    let memory = PortError::from(AllocError).to_string(alloc);
+    let memory = memory.expect(&rt, NO_MEMORY);
+    assert!(rt; memory.as_str() == "out of memory");
 }

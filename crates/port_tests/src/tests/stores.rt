@@ -1,9 +1,9 @@
 //! Stores in memory, without faults and with listed ones.
 use super::Step::{self, Begin, Read, Replace};
-use super::{FAILED, follow};
+use super::{FAILED, NO_MEMORY, follow};
 use file_port::{MemoryStore, PortError, SureStore};
-use std::alloc::{AllocError, Global};
-use std::test::Fail;
+use std::alloc::Global;
+use std::process::Abort;
 
 /// The files of each store, one of them twice.
 const FILES: &[(&str, &[u8])] = &[
@@ -14,13 +14,14 @@ const FILES: &[(&str, &[u8])] = &[
     ("ab", b"\x00\xff"),
 ];
 
-fn some_files(alloc: Global) -> Result<Vec<(String, Vec<u8>)>, AllocError> {
+fn some_files(rt: &impl Abort, alloc: Global) -> Vec<(String, Vec<u8>)> {
     let mut files = Vec::new(alloc);
     for (name, bytes) in FILES {
-        let name = String::from_str(alloc, name)?;
-        files.push((name, Vec::from_slice(alloc, bytes)?))?;
+        let name = String::from_str(alloc, name).expect(rt, NO_MEMORY);
+        let bytes = Vec::from_slice(alloc, bytes).expect(rt, NO_MEMORY);
+        files.push((name, bytes)).expect(rt, NO_MEMORY);
     }
-    Ok(files)
+    files
 }
 
 /// Every way through files without a fault.
@@ -74,14 +75,13 @@ const HELD: &[(&str, Option<&[u8]>)] = &[
 ];
 
 #[test]
-fn sure_store_answers(rt: HostRuntime) -> Result<(), Fail> {
+fn sure_store_answers(rt: HostRuntime) {
     let alloc = rt.alloc();
-    let mut store = SureStore::new(some_files(alloc)?);
+    let mut store = SureStore::new(some_files(&rt, alloc));
     follow(&rt, alloc, "sure", &mut store, SURE_STEPS);
     for (name, wanted) in HELD {
-        assert_eq!(rt; store.file(name), *wanted, "{name}");
+        assert!(rt; store.file(name) == *wanted, "{name}");
     }
-    Ok(())
 }
 
 /// Lists of failing calls, each with its name and what a store that has it answers.
@@ -156,13 +156,13 @@ const FAILING_STEPS: &[(&str, &[u32], &[Step])] = &[
 ];
 
 #[test]
-fn memory_store_fails_at_listed_calls(rt: HostRuntime) -> Result<(), Fail> {
+fn memory_store_fails_at_listed_calls(rt: HostRuntime) {
     let alloc = rt.alloc();
     for (row, fails, steps) in FAILING_STEPS {
-        let mut store = MemoryStore::new(some_files(alloc)?, Vec::from_slice(alloc, fails)?);
+        let fails = Vec::from_slice(alloc, fails).expect(&rt, NO_MEMORY);
+        let mut store = MemoryStore::new(some_files(&rt, alloc), fails);
         follow(&rt, alloc, row, &mut store, steps);
         let held = (store.file("b").is_some(), store.file("d").is_some());
-        assert_eq!(rt; held, (true, false), "{row}");
+        assert!(rt; held == (true, false), "{row}");
     }
-    Ok(())
 }

@@ -9,11 +9,10 @@ use super::changes::Change::{
 };
 use super::changes::{Change, changed};
 use super::runs::{FOUR_STEPS, RUNS};
-use super::{Files, bytes_of, felts, files_of, keeps_limits, pairs, program};
+use super::{Files, NO_MEMORY, bytes_of, felts, files_of, keeps_limits, pairs, program};
 use goldilocks::PRIME;
 use std::alloc::{AllocError, Global};
 use std::process::Abort;
-use std::test::Fail;
 use table_builder::{BuildFault, build};
 use table_file::{Tables, write};
 use trace_files::CellList;
@@ -31,15 +30,15 @@ fn built(rt: &impl Abort, alloc: Global, files: Files) -> Result<Tables, BuildFa
 }
 
 #[test]
-fn runs_have_their_tables(rt: HostRuntime) -> Result<(), Fail> {
+fn runs_have_their_tables(rt: HostRuntime) {
+    let alloc = rt.alloc();
     for run in RUNS {
         let name = run.name;
-        let tables = built(&rt, rt.alloc(), files_of(rt.alloc(), run)?)?;
-        let bytes = write(rt.alloc(), &tables)?;
-        let wanted = bytes_of(rt.alloc(), run.tables)?;
-        assert!(rt; bytes.as_slice() == wanted.as_slice(), "{name}");
+        let files = files_of(&rt, alloc, run);
+        let tables = built(&rt, alloc, files).expect(&rt, "the tables are built");
+        let bytes = write(alloc, &tables).expect(&rt, NO_MEMORY);
+        assert!(rt; bytes == bytes_of(&rt, alloc, run.tables), "{name}");
     }
-    Ok(())
 }
 
 /// A name, changes of the four steps, and what is reported.
@@ -286,24 +285,25 @@ const TWO_FAULTS: &[Case] = &[
     ),
 ];
 
+const ALL_FAULTS: &[&[Case]] = &[FAULTS, TWO_FAULTS];
+
 /// The fault of the run, as its command prints it.
 fn told(rt: &impl Abort, alloc: Global, files: Files) -> Result<String, AllocError> {
     match built(rt, alloc, files) {
-        Ok(_) => format!(in alloc; "built"),
-        Err(fault) => format!(in alloc; "{fault}"),
+        Ok(_) => String::from_str(alloc, "built"),
+        Err(fault) => fault.to_string(alloc),
     }
 }
 
 #[test]
-fn the_first_fault_is_told(rt: HostRuntime) -> Result<(), Fail> {
-    for cases in [FAULTS, TWO_FAULTS] {
-        for (name, changes, wanted) in cases {
-            let files = changed(rt.alloc(), &FOUR_STEPS, changes)?;
-            let told = told(&rt, rt.alloc(), files)?;
-            assert_eq!(rt; told.as_str(), *wanted, "{name}");
+fn the_first_fault_is_told(rt: HostRuntime) {
+    for cases in ALL_FAULTS {
+        for (name, changes, wanted) in *cases {
+            let files = changed(&rt, rt.alloc(), &FOUR_STEPS, changes);
+            let told = told(&rt, rt.alloc(), files).expect(&rt, NO_MEMORY);
+            assert!(rt; told.as_str() == *wanted, "{name}");
         }
     }
-    Ok(())
 }
 
 /// A name, changes of the four steps, and the fillers of the memory and of the small values.
@@ -349,24 +349,22 @@ const FILLED: &[Filled] = &[
 ];
 
 #[test]
-fn fillers_lie_between(rt: HostRuntime) -> Result<(), Fail> {
+fn fillers_lie_between(rt: HostRuntime) {
+    let alloc = rt.alloc();
     for (name, changes, cells, values) in FILLED {
-        let files = changed(rt.alloc(), &FOUR_STEPS, changes)?;
-        let tables = built(&rt, rt.alloc(), files)?;
-        let cells = pairs(rt.alloc(), cells)?;
-        let values = felts(rt.alloc(), values)?;
-        assert!(rt;
-            tables.memory.fill.as_slice() == cells.as_slice()
-                && tables.small.fill.as_slice() == values.as_slice(),
-            "{name}"
-        );
+        let files = changed(&rt, alloc, &FOUR_STEPS, changes);
+        let tables = built(&rt, alloc, files).expect(&rt, "the tables are built");
+        let cells = pairs(&rt, alloc, cells);
+        let values = felts(&rt, alloc, values);
+        let same = tables.memory.fill == cells && tables.small.fill == values;
+        assert!(rt; same, "{name}");
     }
-    Ok(())
 }
 
 #[test]
-fn want_of_memory_has_a_text(rt: HostRuntime) -> Result<(), Fail> {
-    let text = format!(in rt.alloc(); "{}", BuildFault::Memory)?;
-    assert_eq!(rt; text.as_str(), "Memory");
-    Ok(())
+fn want_of_memory_has_a_text(rt: HostRuntime) {
+    let text = BuildFault::Memory
+        .to_string(rt.alloc())
+        .expect(&rt, NO_MEMORY);
+    assert!(rt; text.as_str() == "Memory");
 }

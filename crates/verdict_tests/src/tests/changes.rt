@@ -1,12 +1,12 @@
 //! Small changes of a run and of its tables.
 
 use super::runs::Run;
-use super::{Files, felt, files_of, pair, state};
+use super::{Files, NO_MEMORY, felt, files_of, pair, state};
 use cpu_rows::Row;
 use goldilocks::Pair;
 use range_columns::RangeRow;
-use std::alloc::{AllocError, Global};
-use std::test::Fail;
+use std::alloc::Global;
+use std::process::Abort;
 use table_file::Tables;
 
 /// A small change of a run, or of its tables.
@@ -49,16 +49,16 @@ pub enum Change {
 }
 
 /// The run of these numbers with these changes, one after another.
-pub fn changed(alloc: Global, run: &Run, changes: &[Change]) -> Result<Files, Fail> {
-    let mut files = files_of(alloc, run)?;
+pub fn changed(rt: &impl Abort, alloc: Global, run: &Run, changes: &[Change]) -> Files {
+    let mut files = files_of(rt, alloc, run);
     for change in changes {
-        apply(alloc, &mut files, *change)?;
+        apply(rt, alloc, &mut files, *change);
     }
-    Ok(files)
+    files
 }
 
 /// The run, changed.
-fn apply(alloc: Global, files: &mut Files, change: Change) -> Result<(), AllocError> {
+fn apply(rt: &impl Abort, alloc: Global, files: &mut Files, change: Change) {
     match change {
         Change::Places(start, end) => files.places = (start, end),
         Change::Steps(steps) => files.public.steps = steps,
@@ -70,26 +70,40 @@ fn apply(alloc: Global, files: &mut Files, change: Change) -> Result<(), AllocEr
             files.public.range_begin = felt(begin);
             files.public.range_count = count;
         }
-        Change::Shown(addr, value) => files.public.cells.push(pair((addr, value)))?,
-        Change::ShownFirst(addr, value) => files.public.cells.insert(0, pair((addr, value)))?,
+        Change::Shown(addr, value) => push_pair(rt, &mut files.public.cells, addr, value),
+        Change::ShownFirst(addr, value) => {
+            insert_pair(rt, &mut files.public.cells, 0, addr, value);
+        }
         Change::State(place, numbers) => {
             if let Some(there) = files.states.get_mut(place) {
                 *there = state(numbers);
             }
         }
         Change::With(addr, value) => {
-            files.cells = cells_without(alloc, &files.cells, addr)?;
-            files.cells.push(pair((addr, value)))?;
+            files.cells = cells_without(rt, alloc, &files.cells, addr);
+            push_pair(rt, &mut files.cells, addr, value);
             files.cells.sort_unstable();
         }
-        Change::Without(addr) => files.cells = cells_without(alloc, &files.cells, addr)?,
-        _ => apply_to_tables(&mut files.tables, change)?,
+        Change::Without(addr) => files.cells = cells_without(rt, alloc, &files.cells, addr),
+        _ => apply_to_tables(rt, &mut files.tables, change),
     }
-    Ok(())
+}
+
+/// One more cell, the last.
+fn push_pair(rt: &impl Abort, cells: &mut Vec<Pair>, addr: u64, value: u64) {
+    cells.push(pair((addr, value))).expect(rt, NO_MEMORY);
+}
+
+/// One more cell at a place, or the last where there are fewer.
+fn insert_pair(rt: &impl Abort, cells: &mut Vec<Pair>, place: usize, addr: u64, value: u64) {
+    let place = place.min(cells.len());
+    cells
+        .insert(place, pair((addr, value)))
+        .expect(rt, NO_MEMORY);
 }
 
 /// The tables, changed.
-fn apply_to_tables(tables: &mut Tables, change: Change) -> Result<(), AllocError> {
+fn apply_to_tables(rt: &impl Abort, tables: &mut Tables, change: Change) {
     match change {
         Change::Row(place, column, number) => {
             if let Some(row) = tables.rows.get_mut(place) {
@@ -104,9 +118,8 @@ fn apply_to_tables(tables: &mut Tables, change: Change) -> Result<(), AllocError
             }
         }
         Change::Filler(place, addr, value) => {
-            tables.memory.fill.push(pair((addr, value)))?;
-            let place = place.min(tables.memory.sorted.len());
-            tables.memory.sorted.insert(place, pair((addr, value)))?;
+            push_pair(rt, &mut tables.memory.fill, addr, value);
+            insert_pair(rt, &mut tables.memory.sorted, place, addr, value);
         }
         Change::Value(place, number) => {
             if let Some(value) = tables.small.sorted.get_mut(place) {
@@ -114,9 +127,11 @@ fn apply_to_tables(tables: &mut Tables, change: Change) -> Result<(), AllocError
             }
         }
         Change::RangeRow(value, limbs) => {
-            tables.range.push(range_row(value, limbs))?;
+            let row = range_row(value, limbs);
+            tables.range.push(row).expect(rt, NO_MEMORY);
             for limb in limbs {
-                tables.small.sorted.push(felt(limb))?;
+                let sorted = &mut tables.small.sorted;
+                sorted.push(felt(limb)).expect(rt, NO_MEMORY);
             }
         }
         Change::NoRows => {
@@ -125,18 +140,17 @@ fn apply_to_tables(tables: &mut Tables, change: Change) -> Result<(), AllocError
         }
         _ => {}
     }
-    Ok(())
 }
 
 /// The cells but the one at an address.
-fn cells_without(alloc: Global, cells: &[Pair], addr: u64) -> Result<Vec<Pair>, AllocError> {
+fn cells_without(rt: &impl Abort, alloc: Global, cells: &[Pair], addr: u64) -> Vec<Pair> {
     let mut left = Vec::new(alloc);
     for cell in cells {
         if cell.addr.number != addr {
-            left.push(*cell)?;
+            left.push(*cell).expect(rt, NO_MEMORY);
         }
     }
-    Ok(left)
+    left
 }
 
 /// The row with another number in a column.

@@ -12,13 +12,12 @@ use super::runs::{
     BOTH_RES_FLAGS, CALL_WITH_AP_ADD1, FOUR_STEPS, GAPS, JUMP_NOT_TAKEN, JUMP_TAKEN, OUTPUT_CELL,
     PASSES_ITS_LAST_PC, RANGE_CELL, Run, THREE_LIMBS,
 };
-use super::{Files, keeps_limits, pair, program};
+use super::{Files, NO_MEMORY, keeps_limits, pair, program};
 use constraint_checker::{Verdict, check};
 use goldilocks::PRIME;
 use memory_columns::sort_columns;
 use std::alloc::{AllocError, Global};
 use std::process::Abort;
-use std::test::Fail;
 use table_file::Tables;
 
 /// Whether the tables are valid.
@@ -43,7 +42,7 @@ fn found(rt: &impl Abort, alloc: Global, files: Files) -> Result<String, AllocEr
     assert!(rt; keeps_limits(&files.public));
     assert!(rt; are_valid(&files.tables));
     match check(alloc, &program, &files.public, &files.tables)? {
-        Verdict::Accepted => format!(in alloc; "accepted"),
+        Verdict::Accepted => String::from_str(alloc, "accepted"),
         Verdict::Refused { constraint, row } => format!(in alloc; "{constraint} row {row}"),
     }
 }
@@ -139,28 +138,27 @@ const CALL_CASES: &[Case] = &[
 ];
 
 /// What is found of the run with these changes has to be what the case says.
-fn check_cases(rt: &impl Abort, alloc: Global, run: &Run, cases: &[Case]) -> Result<(), Fail> {
+fn check_cases(rt: &impl Abort, alloc: Global, run: &Run, cases: &[Case]) {
     let run_name = run.name;
     for (name, changes, wanted) in cases {
-        let files = changed(alloc, run, changes)?;
-        let found = found(rt, alloc, files)?;
-        assert_eq!(rt; found.as_str(), *wanted, "{run_name}: {name}");
+        let files = changed(rt, alloc, run, changes);
+        let found = found(rt, alloc, files).expect(rt, NO_MEMORY);
+        assert!(rt; found.as_str() == *wanted, "{run_name}: {name}");
     }
-    Ok(())
 }
 
 #[test]
-fn the_first_constraint_that_fails_is_told(rt: HostRuntime) -> Result<(), Fail> {
-    check_cases(&rt, rt.alloc(), &FOUR_STEPS, FOUR_STEPS_CASES)?;
-    check_cases(&rt, rt.alloc(), &JUMP_TAKEN, JUMP_CASES)?;
-    check_cases(&rt, rt.alloc(), &JUMP_NOT_TAKEN, ACCEPTED)?;
-    check_cases(&rt, rt.alloc(), &RANGE_CELL, RANGE_CELL_CASES)?;
-    check_cases(&rt, rt.alloc(), &THREE_LIMBS, ACCEPTED)?;
-    check_cases(&rt, rt.alloc(), &OUTPUT_CELL, ACCEPTED)?;
-    check_cases(&rt, rt.alloc(), &PASSES_ITS_LAST_PC, ACCEPTED)?;
-    check_cases(&rt, rt.alloc(), &GAPS, ACCEPTED)?;
-    check_cases(&rt, rt.alloc(), &BOTH_RES_FLAGS, BOTH_RES_FLAGS_CASES)?;
-    check_cases(&rt, rt.alloc(), &CALL_WITH_AP_ADD1, CALL_CASES)
+fn the_first_constraint_that_fails_is_told(rt: HostRuntime) {
+    check_cases(&rt, rt.alloc(), &FOUR_STEPS, FOUR_STEPS_CASES);
+    check_cases(&rt, rt.alloc(), &JUMP_TAKEN, JUMP_CASES);
+    check_cases(&rt, rt.alloc(), &JUMP_NOT_TAKEN, ACCEPTED);
+    check_cases(&rt, rt.alloc(), &RANGE_CELL, RANGE_CELL_CASES);
+    check_cases(&rt, rt.alloc(), &THREE_LIMBS, ACCEPTED);
+    check_cases(&rt, rt.alloc(), &OUTPUT_CELL, ACCEPTED);
+    check_cases(&rt, rt.alloc(), &PASSES_ITS_LAST_PC, ACCEPTED);
+    check_cases(&rt, rt.alloc(), &GAPS, ACCEPTED);
+    check_cases(&rt, rt.alloc(), &BOTH_RES_FLAGS, BOTH_RES_FLAGS_CASES);
+    check_cases(&rt, rt.alloc(), &CALL_WITH_AP_ADD1, CALL_CASES);
 }
 
 /// The changes of row 0: off_dst, off_op0, dst_addr, op0_addr and op0.
@@ -176,12 +174,14 @@ const OTHER_OFFSETS: &[Change] = &[
 ];
 
 #[test]
-fn an_offset_out_of_range(rt: HostRuntime) -> Result<(), Fail> {
-    let mut files = changed(rt.alloc(), &FOUR_STEPS, OTHER_OFFSETS)?;
-    let accesses = Vec::from_slice(rt.alloc(), &files.tables.memory.sorted)?;
+fn an_offset_out_of_range(rt: HostRuntime) {
+    let alloc = rt.alloc();
+    let mut files = changed(&rt, alloc, &FOUR_STEPS, OTHER_OFFSETS);
+    let accesses = Vec::from_slice(alloc, &files.tables.memory.sorted).expect(&rt, NO_MEMORY);
     assert!(rt; !accesses.is_empty());
-    files.tables.memory = sort_columns(rt.alloc(), accesses, &files.tables.memory)?;
-    assert_eq!(rt; files.tables.memory.fill.len(), 65532);
-    assert_eq!(rt; found(&rt, rt.alloc(), files)?.as_str(), "Q4 row 1");
-    Ok(())
+    let sorted = sort_columns(alloc, accesses, &files.tables.memory);
+    files.tables.memory = sorted.expect(&rt, "the columns are made");
+    assert!(rt; files.tables.memory.fill.len() == 65532);
+    let found = found(&rt, alloc, files).expect(&rt, NO_MEMORY);
+    assert!(rt; found.as_str() == "Q4 row 1");
 }
