@@ -5,7 +5,6 @@ use Rattle.serde_json.specs.Data.{Data}
 use Rattle.goldilocks.specs.declared.Felt.{Felt}
 use Rattle.segments.specs.declared.Place.{Place}
 use Rattle.segments.specs.declared.Value.{Value}
-use Rattle.segments.specs.declared.Value.TheVariants.{Num, Ptr}
 use Rattle.segments.specs.Values.{place}
 use Rattle.json_fields.specs.Values.{list_in, whole_in, felt_in}
 use Rattle.hint_cells.specs.declared.HintCell.{HintCell}

@@ -21,9 +21,7 @@ use Rattle.json_fields.proofs.ReadBack.{json_of-compact_text}
 use Rattle.json_fields.proofs.Parts.{items_depth-items_of, list_in-list_json, whole_in-whole_json, felt_in-felt_json, IsPlain-felt_json}
 use Rattle.json_fields.proofs.WrittenTokens.{Adds, and_then, value_written}
 use Rattle.hint_cells.specs.declared.HintCell.{HintCell}
-use Rattle.hint_cells.specs.declared.fault.HintKey.TheVariants as key
 use Rattle.hint_cells.specs.Limits.{index_limit}
-use Rattle.hint_cells.specs.Shown.{key_name}
 use Rattle.hint_cells.specs.Fits.{FitsPlace, FitsValue, FitsPlaces}
 use Rattle.hint_cells.specs.HintList.{HintList, AreHints}
 use Rattle.hint_cells.specs.Cells.{index_in, place_of, pointer_in, value_in, cell_in}

@@ -1,4 +1,4 @@
-use Rattle.std.proofs.Common.{◌≡◌, ◌∙◌, [], ◌∷◌, codes, map, ap, decimal, All, subst}
+use Rattle.std.proofs.Common.{◌≡◌, ◌∙◌, [], ◌∷◌, map, ap, decimal, All, subst}
 use Rattle.json.specs.Token as token
 use Rattle.json_fields.specs.Encoding.{list_json}
 use Rattle.json_fields.proofs.WrittenTokens.{token_added, value_added, and_then}
