@@ -1,5 +1,6 @@
 //! Tables of files. What they say, and their faults, were written by hand from the formats.
 
+mod hints;
 mod programs;
 mod statements;
 mod values;

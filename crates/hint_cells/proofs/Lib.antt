@@ -1,0 +1,4 @@
+pub mod Entries
+pub mod ReadCells
+pub mod Spelling
+pub mod WrittenHints
