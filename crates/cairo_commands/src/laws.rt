@@ -1,6 +1,6 @@
 //! Laws of the definitions: functions that do nothing, and whose contracts say what always holds.
 
-ghost use Rattle.std.specs.Prelude.{◌≡◌, ◌≢◌, ◌≤◌, ℕ, Err, List, [], length, map, String};
+ghost use Rattle.std.specs.Prelude.{◌≡◌, ◌≢◌, ◌≤◌, ℕ, false, Err, List, [], length, map, String};
 ghost use Rattle.std.specs.declared.alloc.Global.{Global};
 ghost use Rattle.std.specs.List.{Contains};
 ghost use Rattle.file_port.specs.Files.{Name, Files};
@@ -34,6 +34,7 @@ pub fn limit_laws()
     ensures trace { (bytes : List ℕ) (states : List Registers) → SpellsTrace bytes states → length bytes ≤ trace_format.limit }
     ensures memory { (bytes : List ℕ) (cells : List Pair) → SpellsMemory bytes cells → length bytes ≤ memory_format.limit }
     // A file within that limit has no more entries than it may have.
+    ensures entries { (trace_format.may_have_too_many ≡ false) × (memory_format.may_have_too_many ≡ false) }
     ensures states { (bytes : List ℕ) → length bytes ≤ trace_format.limit → trace_format.reading bytes ≢ Err TooMuch }
     ensures cells { (bytes : List ℕ) → length bytes ≤ memory_format.limit → memory_format.reading bytes ≢ Err TooMuch }
 {}
