@@ -4,7 +4,7 @@ use super::memory::{check_columns, columns_of, memory};
 use super::{Cells, LAST, NO_MEMORY, cells, felts};
 use memory_columns::memory_fault;
 use range_columns::range_fault;
-use sorted_lists::order_difference;
+use sorted_lists::{order_difference, put_in_order};
 
 /// A name, two lists of cells, and the first place where they differ in order.
 type Difference = (&'static str, Cells, Cells, Option<usize>);
@@ -229,6 +229,42 @@ const COLUMNS: &[Columns] = &[
         &[],
         &[(LAST - 1, 6), (LAST, 7)],
     ),
+    (
+        "in order already",
+        &[(1, 5), (2, 6), (2, 6), (3, 7)],
+        &[],
+        &[(1, 5), (2, 6), (2, 6), (3, 7)],
+    ),
+    (
+        "in order already, with a gap",
+        &[(1, 5), (3, 7), (5, 9)],
+        &[(2, 0), (4, 0)],
+        &[(1, 5), (2, 0), (3, 7), (4, 0), (5, 9)],
+    ),
+    (
+        "in order but for the last item",
+        &[(2, 6), (3, 7), (4, 8), (1, 5)],
+        &[],
+        &[(1, 5), (2, 6), (3, 7), (4, 8)],
+    ),
+    (
+        "in order but for the value of the last item",
+        &[(1, 5), (2, 7), (2, 6)],
+        &[],
+        &[(1, 5), (2, 6), (2, 7)],
+    ),
+    (
+        "in order but for the first item",
+        &[(4, 8), (1, 5), (2, 6), (3, 7)],
+        &[],
+        &[(1, 5), (2, 6), (3, 7), (4, 8)],
+    ),
+    (
+        "equal items",
+        &[(5, 3), (5, 3), (5, 3)],
+        &[],
+        &[(5, 3), (5, 3), (5, 3)],
+    ),
 ];
 
 #[test]
@@ -238,4 +274,10 @@ fn accesses_are_put_in_order(rt: HostRuntime) {
         let columns = columns_of(&rt, rt.alloc(), accesses, &nothing);
         check_columns(&rt, rt.alloc(), name, &columns, fill, sorted);
     }
+}
+
+#[test]
+fn no_cells_are_put_in_order(rt: HostRuntime) {
+    let none = cells(&rt, rt.alloc(), &[]);
+    assert!(rt; put_in_order(rt.alloc(), none).is_empty());
 }
