@@ -1,0 +1,2 @@
+pub mod StartMemory
+pub mod Adding

@@ -1,0 +1,10 @@
+mod Passing
+pub mod Shapes
+pub mod Relocated
+pub mod Chains
+pub mod Adding
+pub mod StepParts
+pub mod Lying
+pub mod Inside
+pub mod StepStands
+pub mod Reread

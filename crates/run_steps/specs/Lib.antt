@@ -1,0 +1,13 @@
+pub mod Causes
+pub mod Operands
+pub mod Next
+pub mod Deduction
+pub mod Step
+pub mod ValueRun
+pub mod Shown
+pub use Rattle.segments.specs.Values
+pub use Rattle.segments.specs.Memory
+pub use Rattle.segments.specs.Relocation
+pub use Rattle.casm_word.specs.Transition
+pub use Rattle.casm_word.specs.Run
+pub use Rattle.builtin_segments.specs.Rules
