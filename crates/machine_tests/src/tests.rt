@@ -4,6 +4,7 @@ mod field;
 mod relocating;
 mod running;
 mod segment_values;
+mod starts;
 mod stepping;
 mod words;
 

@@ -1,4 +1,4 @@
-//! Where the segments of a run come to lie, and what its values are there.
+//! Where the segments of a run come to lie, what its values are there, and the run over numbers that it is then.
 #![tactic(auto)]
 
 ghost use Rattle.std.specs.Prelude.{◌≡◌, ◌≢◌, ℕ, ◌+◌, ◌<◌, ◌≤◌, All, List, IfOk, IsSome, length, slice_index};
@@ -8,7 +8,14 @@ ghost use Rattle.segments.specs.Memory.{cell, total_limit};
 ghost use Rattle.segments.specs.Relocation.{base, segment_bases, relocated};
 ghost use Rattle.relocation.specs.Bases.{HasBase, address_by, relocated_by};
 
+mod laws;
+mod relocating;
+mod run;
+
 use goldilocks::Felt;
+pub use laws::{cell_laws, run_laws};
+pub use relocating::relocate;
+pub use run::FieldRun;
 use segments::{Segments, Value};
 use std::alloc::{AllocError, Global};
 

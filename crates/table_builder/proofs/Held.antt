@@ -101,12 +101,13 @@ one_value-held m cells all x y at_x at_y same =
     let one : Some x.value.number ≡ Some y.value.number = sym here ∙ (ap m same ∙ there) in
     cc
 
-module _ (program : Listing) (public : Statement) (m : Memory) (states : List Registers) (low : (a v : ℕ) → m a ≡ Some v → v < prime) (small : All IsState states) (run : LegalRun m states) (answers : Answered program public m states) where
-  pub reads_held : Holds m (reads program public m states)
+module _ (program : Listing) (public : Statement) (m : Memory) (states : List Registers) (low : (a v : ℕ) → m a ≡ Some v → v < prime) (small : All IsState states) (run : LegalRun m states) where
+  -- where it has the program's words, the public cells and the range cells
+  pub reads_held_from : All (Has m) (program_cells program.words ++ public.cells) → All (HasRange public m) (range_with_len 0 public.range_count) → Holds m (reads program public m states)
   unfolding Holds reads accesses_of rows_of
-  reads_held =
+  reads_held_from has_cells has_range =
       let R = Has m in
-      let given = all_both R (program_cells program.words) public.cells answers.cells in
+      let given = all_both R (program_cells program.words) public.cells has_cells in
       let rows : List Row = rows_of m states in
       let range : List RangeRow = range_rows_of public m in
       All-append R (flat_map row_cells rows ++ range_cells public.range_begin.number range ++ program_cells program.words ++ public.cells) []
@@ -114,11 +115,15 @@ module _ (program : Listing) (public : Statement) (m : Memory) (states : List Re
       (All-append R (flat_map row_cells rows ++ range_cells public.range_begin.number range) (program_cells program.words)
       (All-append R (flat_map row_cells rows) (range_cells public.range_begin.number range)
       (All-pieces R row_cells rows (rows_held m (steps states) (columns_of m (steps states)) (run_told m states low small run)))
-      (range_held m public range refl answers.range))
+      (range_held m public range refl has_range))
       given.0)
       given.1)
       (λ k d within. absurd (omega arith))
 
-  pub reads_one_value : OneValueEach (reads program public m states)
-  unfolding Holds
-  reads_one_value = one_value-held m (reads program public m states) reads_held
+  module _ (answers : Answered program public m states) where
+    pub reads_held : Holds m (reads program public m states)
+    reads_held = reads_held_from answers.cells answers.range
+
+    pub reads_one_value : OneValueEach (reads program public m states)
+    unfolding Holds
+    reads_one_value = one_value-held m (reads program public m states) reads_held

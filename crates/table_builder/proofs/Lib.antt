@@ -28,3 +28,9 @@ pub mod RowLoop
 pub mod BuiltColumns
 pub mod Chain
 pub mod BuiltRun
+pub mod SmallNumbers
+pub mod ShownCells
+pub mod Digits
+pub mod Stated
+pub mod PublicCode
+pub mod StatedRuns

@@ -16,10 +16,12 @@ use Rattle.public_input.specs.Statement.{Statement}
 use Rattle.table_file.specs.Tables.{Contents}
 use Rattle.access_lists.specs.Accesses.{row_cells, program_cells, range_cells, accesses as accesses_of}
 use Rattle.access_lists.specs.SmallValues.{row_offsets, limbs, small_values}
-use Rattle.goldilocks.specs.Cells.{cell, cells_from}
+use Rattle.goldilocks.specs.Cells.{cell, cells_from, memory_of}
+use Rattle.relocation.specs.Relocated.{RelocatedRun}
 use Rattle.table_builder.specs.declared.faults.Field.TheVariants.{ApLast, RcMax}
 use Rattle.table_builder.specs.Rows.{row_at, as_row, rows_of, limb_row, range_rows_of}
 use Rattle.table_builder.specs.Columns.{least_of, greatest_of, reads, run_small_values, free_addresses, cells_at, tables_of}
+use Rattle.table_builder.specs.Public.{stated_with, small_numbers, public_of}
 use Rattle.table_builder.specs.Findings.{Finding, Mismatch, NoCell, first_found, end_findings, step_finding, cell_findings, range_findings, limit_findings, width_finding, findings}
 
 -- `ap += 0`, `call rel 4`, `jmp rel 0`, `[ap] = 25; ap++` and `ret`
@@ -104,3 +106,29 @@ pair_count = refl
 last_row : option_map (λ c. c.op1_addr ∷ c.op1 ∷ c.dst_addr ∷ c.dst ∷ c.res ∷ []) (row_at memory (state 9 15 14)) ≡ Some (13 ∷ 5 ∷ 12 ∷ 12 ∷ 5 ∷ [])
 unfolding row_at row_of tilde_of decoding flags_of word_of breaks first_broken field_add field_mul field_of_int field_neg
 last_row = refl
+
+-- ---- what the run states of itself
+
+-- the run, whose stack begins with the cells 10 and 11, with so many range cells from cell 10 on
+abbrev run_with : ℕ → RelocatedRun
+run_with range_count = record {
+  states = states;
+  cells = cells_from 1 (map felt (words ++ 12 ∷ 0 ∷ 12 ∷ 5 ∷ 25 ∷ []));
+  shown = 10 ∷ 11 ∷ [];
+  range_begin = 10;
+  range_count = range_count;
+}
+
+-- the offsets of the word at pc 5, where the last state is, lie within those of the others
+stated_numbers : let s = public_of (run_with 0) in (s.steps ∷ s.ap_first.number ∷ s.ap_last.number ∷ s.rc_min ∷ s.rc_max ∷ []) ≡ 4 ∷ 12 ∷ 15 ∷ 32766 ∷ 32769 ∷ []
+unfolding public_of stated_with small_numbers run_small_values rows_of row_at as_row row_of tilde_of range_rows_of limb_row limb_at cells_from small_values row_offsets limbs least_of greatest_of decoding flags_of word_of breaks first_broken field_add field_mul field_of_int field_neg memory_of
+stated_numbers = refl
+
+stated_cells : map numbers_of (public_of (run_with 0)).cells ≡ (10, 12) ∷ (11, 0) ∷ []
+unfolding public_of stated_with cells_at filler_at cells_from memory_of
+stated_cells = refl
+
+-- the limbs of the range cell are 12, 0 and 0
+stated_with_range_cell : let s = public_of (run_with 1) in (s.rc_min ∷ s.rc_max ∷ s.range_begin.number ∷ s.range_count ∷ []) ≡ 0 ∷ 32769 ∷ 10 ∷ 1 ∷ []
+unfolding public_of stated_with small_numbers run_small_values rows_of row_at as_row row_of tilde_of range_rows_of limb_row limb_at cells_from small_values row_offsets limbs least_of greatest_of decoding flags_of word_of breaks first_broken field_add field_mul field_of_int field_neg memory_of
+stated_with_range_cell = refl

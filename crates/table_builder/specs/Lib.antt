@@ -5,6 +5,8 @@ pub mod Building
 pub mod TablesOf
 pub mod Shown
 pub mod Parts
+pub mod Public
+pub mod PublicParts
 pub use Rattle.casm_word.specs.Transition
 pub use Rattle.casm_word.specs.Run
 pub use Rattle.program_file.specs.Listing
@@ -18,3 +20,4 @@ pub use Rattle.trace_files.specs.CellList
 pub use Rattle.constraint_checker.specs.Lists
 pub use Rattle.constraint_checker.specs.Constraints
 pub use Rattle.constraint_checker.specs.Verdict
+pub use Rattle.relocation.specs.Relocated

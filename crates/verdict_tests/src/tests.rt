@@ -10,6 +10,7 @@ mod building;
 mod changes;
 mod checking;
 mod runs;
+mod stating;
 
 use casm_word::State;
 use goldilocks::{Felt, PRIME, Pair};

@@ -132,7 +132,7 @@ const VALUES: &[(Plain, &str)] = &[
 
 /// Why a value may not go to a place, in plain numbers.
 #[derive(Clone, Copy)]
-enum Refusal {
+pub(crate) enum Refusal {
     NoSegment,
     Fixed,
     CellLimit,
@@ -141,7 +141,7 @@ enum Refusal {
 
 use Refusal::{CellLimit, Conflict, Fixed, NoSegment};
 
-fn cause_of(refusal: Refusal) -> PutCause {
+pub(crate) fn cause_of(refusal: Refusal) -> PutCause {
     match refusal {
         NoSegment => PutCause::NoSegment,
         Fixed => PutCause::Fixed,

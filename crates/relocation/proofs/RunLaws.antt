@@ -1,0 +1,63 @@
+-- What holds of relocated runs.
+use Rattle.std.proofs.Common.{◌≡◌, ℕ, ◌<◌, ◌≤◌, List, [], ◌∷◌, map, All, Option, Some, None, refl, sym, subst, arith}
+use Rattle.std.specs.Prelude.{IsSome, slice_get}
+use Rattle.std.specs.List.{AllByRecursion}
+use Rattle.std.specs.List.Sorted.{IsStrictlyIncreasing, IsStrictlySortedBy}
+use Rattle.std.proofs.lemmas.List.Elements.{All-from_recursion, recursion_from_All}
+use Rattle.std.proofs.lemmas.Map.Keys.{IsStrictlyIncreasing-from_sorted}
+use Rattle.goldilocks.specs.Cells.{memory_of}
+use Rattle.goldilocks.proofs.Cells.{memory_of-low}
+use Rattle.casm_word.specs.Transition.{Registers}
+use Rattle.casm_word.specs.Run.{LegalRun}
+use Rattle.segments.specs.declared.Place.{Place}
+use Rattle.segments.specs.declared.RelState.{RelState}
+use Rattle.segments.specs.declared.Value.{Value}
+use Rattle.segments.specs.Values.{place}
+use Rattle.segments.specs.Memory.{RunMemory, IsMemory, cell, total_limit}
+use Rattle.segments.specs.Relocation.{address}
+use Rattle.trace_files.specs.TraceFile.{IsState}
+use Rattle.run_steps.specs.ValueRun.{ValueRun}
+use Rattle.run_steps.proofs.Relocated.{run_at}
+use Rattle.relocation.specs.Relocated.{relocated_cells, relocated_run, shown_places, IsHeldCell}
+use Rattle.relocation.proofs.CellMemory.{holds_relocated, every_cell, cell-address, cell-value, address_low, less}
+use Rattle.relocation.proofs.RunInField.{run_low}
+
+pub held_cells : (m : RunMemory) → IsMemory m → All (IsHeldCell m) (relocated_cells m)
+held_cells m is = every_cell m (IsHeldCell m) (λ p v there. (p, v, there, cell-address m p v is there, cell-value m p v is there))
+
+pub low_cells : (m : RunMemory) → IsMemory m → All (λ c. c.addr.number ≤ total_limit) (relocated_cells m)
+low_cells m is = every_cell m (λ c. c.addr.number ≤ total_limit) (λ p v there. omega (arith, cell-address m p v is there, address_low m p v is there))
+
+-- the shown cells lie one behind the other
+one_behind : (sizes : List ℕ) → address sizes (place 1 0) < address sizes (place 1 1)
+unfolding address
+one_behind sizes = omega arith
+
+pub shown_ascend : (m : RunMemory) (states : List RelState) → IsStrictlyIncreasing (relocated_run m states).shown
+unfolding relocated_run shown_places IsStrictlySortedBy
+shown_ascend m states =
+    IsStrictlyIncreasing-from_sorted (address m.sizes (place 1 0) ∷ address m.sizes (place 1 1) ∷ [])
+    ((less (address m.sizes (place 1 0)) (address m.sizes (place 1 1)) (one_behind m.sizes), tt), (tt, tt))
+
+-- a held cell's address has a value
+address_held : (m : RunMemory) (p : Place) (o : Option Value) → IsMemory m → cell m p ≡ o → IsSome o → IsSome (memory_of (relocated_cells m) (address m.sizes p))
+address_held m p (Some v) is there some = subst (λ (o : Option ℕ). IsSome o) (sym ((holds_relocated m is).holds p v there)) refl
+address_held m p None is there some = absurd (cc)
+
+addresses_held : (m : RunMemory) (places : List Place) → IsMemory m → AllByRecursion (λ p. IsSome (cell m p)) places → AllByRecursion (λ a. IsSome (memory_of (relocated_cells m) a)) (map (address m.sizes) places)
+addresses_held m [] is held = tt
+addresses_held m (p ∷ places) is held = (address_held m p (cell m p) is refl held.0, addresses_held m places is held.1)
+
+pub shown_held : (m : RunMemory) (states : List RelState) → IsMemory m → All (λ p. IsSome (cell m p)) shown_places → All (λ a. IsSome (memory_of (relocated_cells m) a)) (relocated_run m states).shown
+unfolding relocated_run
+shown_held m states is held =
+    All-from_recursion (λ a. IsSome (memory_of (relocated_cells m) a)) (map (address m.sizes) shown_places)
+    (addresses_held m shown_places is (recursion_from_All (λ p. IsSome (cell m p)) shown_places held))
+
+pub run_in_field : (m : RunMemory) (states : List Registers) → LegalRun (memory_of (relocated_cells m)) states → ((first : Registers) → slice_get states 0 ≡ Some first → IsState first) → All IsState states
+run_in_field m states = run_low (memory_of (relocated_cells m)) states (memory_of-low (relocated_cells m))
+
+-- a run over values is a legal run in the relocated cells
+pub legal_in_cells : (m : RunMemory) (states : List RelState) → IsMemory m → ValueRun m states → LegalRun (memory_of (relocated_run m states).cells) (relocated_run m states).states
+unfolding relocated_run
+legal_in_cells m states is run = run_at m (memory_of (relocated_cells m)) states is (holds_relocated m is) run
