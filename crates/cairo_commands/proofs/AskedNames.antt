@@ -49,7 +49,18 @@ module _ (other : CommandForm) where
   placed_dis (a ∷ []) count = absurd (omega arith)
   placed_dis (a ∷ b ∷ c ∷ more) count = absurd (omega arith)
 
-  placed_tables : Placed (slice_index_or forms 3 other)
+  placed_run : Placed (slice_index_or forms 3 other)
+  unfolding task request_with forms
+  placed_run (program ∷ hints ∷ trace ∷ memory ∷ public ∷ tables ∷ []) count = record { placed = refl; named = refl; written = refl }
+  placed_run [] count = absurd (omega arith)
+  placed_run (a ∷ []) count = absurd (omega arith)
+  placed_run (a ∷ b ∷ []) count = absurd (omega arith)
+  placed_run (a ∷ b ∷ c ∷ []) count = absurd (omega arith)
+  placed_run (a ∷ b ∷ c ∷ d ∷ []) count = absurd (omega arith)
+  placed_run (a ∷ b ∷ c ∷ d ∷ e ∷ []) count = absurd (omega arith)
+  placed_run (a ∷ b ∷ c ∷ d ∷ e ∷ f ∷ g ∷ more) count = absurd (omega arith)
+
+  placed_tables : Placed (slice_index_or forms 4 other)
   unfolding task request_with forms
   placed_tables (program ∷ public ∷ trace ∷ memory ∷ tables ∷ []) count = record { placed = refl; named = refl; written = refl }
   placed_tables [] count = absurd (omega arith)
@@ -59,7 +70,7 @@ module _ (other : CommandForm) where
   placed_tables (a ∷ b ∷ c ∷ d ∷ []) count = absurd (omega arith)
   placed_tables (a ∷ b ∷ c ∷ d ∷ e ∷ f ∷ more) count = absurd (omega arith)
 
-  placed_check : Placed (slice_index_or forms 4 other)
+  placed_check : Placed (slice_index_or forms 5 other)
   unfolding task request_with forms
   placed_check (program ∷ public ∷ tables ∷ []) count = record { placed = refl; named = refl; written = refl }
   placed_check [] count = absurd (omega arith)
@@ -73,9 +84,10 @@ unfolding forms
 placed_row zero form few is = subst Placed is (placed_walk form)
 placed_row (suc zero) form few is = subst Placed is (placed_asm form)
 placed_row (suc (suc zero)) form few is = subst Placed is (placed_dis form)
-placed_row (suc (suc (suc zero))) form few is = subst Placed is (placed_tables form)
-placed_row (suc (suc (suc (suc zero)))) form few is = subst Placed is (placed_check form)
-placed_row (suc (suc (suc (suc (suc more))))) form few is = absurd (omega arith)
+placed_row (suc (suc (suc zero))) form few is = subst Placed is (placed_run form)
+placed_row (suc (suc (suc (suc zero)))) form few is = subst Placed is (placed_tables form)
+placed_row (suc (suc (suc (suc (suc zero))))) form few is = subst Placed is (placed_check form)
+placed_row (suc (suc (suc (suc (suc (suc more)))))) form few is = absurd (omega arith)
 
 -- so of words that keep a form
 pub KeepsPlaces-kept : (form : CommandForm) (words : List Name) (call : Call) → Contains forms form → KeepsForm form words call → KeepsPlaces form call

@@ -15,12 +15,17 @@ use Rattle.public_input.specs.Statement.{Statement}
 use Rattle.public_input.specs.Spelling.{SpellsPublic}
 use Rattle.public_input.specs.Reading.{reading as public_reading}
 use Rattle.public_input.proofs.Spellings.{SpellsPublic-from_reading, reading-spelled}
+use Rattle.hint_cells.specs.HintList.{HintList}
+use Rattle.hint_cells.specs.Format.{SpellsHints}
+use Rattle.hint_cells.specs.Reading.{reading as hints_reading}
+use Rattle.hint_cells.proofs.Spelling.{reading-SpellsHints, SpellsHints-reading}
 use Rattle.table_file.specs.Tables.{Contents}
 use Rattle.table_file.specs.Spelling.{SpellsTables}
 use Rattle.command_frame.specs.Formats.{told}
 use Rattle.command_frame.proofs.Readings.{IsRead, IsRead-held, Holds-read, told_ok}
 use Rattle.cairo_commands.specs.Programs.{program_unread, program_format, HoldsProgram}
 use Rattle.cairo_commands.specs.TableInputs.{public_unread, public_format, HoldsPublic, tables_format, HoldsColumns}
+use Rattle.cairo_commands.specs.HintFiles.{hints_unread, hints_format, HoldsHints}
 use Rattle.cairo_commands.specs.RunFiles.{file_unread, trace_format, HoldsTrace, memory_format, HoldsMemory}
 use Rattle.cairo_commands.proofs.TableReadings.{tables_read-spelled, SpellsTables-from_read}
 
@@ -55,6 +60,17 @@ module _ (name : Name) (files : Files) where
   abbrev pub HoldsColumns-from_read : (t : Contents) → IsRead tables_format name files t → HoldsColumns name files
   HoldsColumns-from_read t is =
       Holds-read tables_format SpellsTables name files t is (SpellsTables-from_read is.bytes t is.read)
+
+  -- hints, likewise
+  pub hints_are_read : (held : HoldsHints name files) → IsRead hints_format name files held.value
+  hints_are_read held =
+      IsRead-held hints_format SpellsHints name files held
+      (ap (told hints_unread) (reading-SpellsHints held.bytes held.value held.spelled))
+
+  abbrev pub HoldsHints-from_read : (h : HintList) → IsRead hints_format name files h → HoldsHints name files
+  HoldsHints-from_read h is =
+      Holds-read hints_format SpellsHints name files h is
+      (SpellsHints-reading is.bytes h (told_ok hints_unread (hints_reading is.bytes) h is.read))
 
   -- a trace, likewise
   pub trace_is_read : (held : HoldsTrace name files) → IsRead trace_format name files held.value

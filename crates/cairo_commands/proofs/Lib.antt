@@ -5,11 +5,16 @@ pub mod EntryLimits
 pub mod WalkTheorem
 pub mod AsmTheorem
 pub mod DisTheorem
+pub mod NamesApart
+pub mod CompletedRuns
+pub mod RunTheorem
 pub mod TablesTheorem
 pub mod CheckTheorem
 pub mod AskedNames
 pub mod Means
 pub mod ReplyLaws
 pub mod ShownBodies
+pub mod TextSizes
 pub mod ProgramSizes
+pub mod PublicSizes
 pub mod AgainLaws

@@ -8,20 +8,26 @@ use Rattle.goldilocks.specs.Cells.{memory_of}
 use Rattle.constraint_checker.specs.declared.Verdict.{Verdict}
 use Rattle.constraint_checker.specs.declared.Verdict.TheVariants as verdict_is
 use Rattle.constraint_checker.specs.Verdict.{verdict}
+use Rattle.program_file.specs.Listing.{Listing}
+use Rattle.builtin_segments.specs.Rules.{rules_of}
+use Rattle.vm_runner.specs.declared.fault.RunFault.{RunFault}
+use Rattle.vm_runner.specs.Run.{Ran, run_of}
 use Rattle.table_file.specs.Tables.{Contents}
 use Rattle.table_builder.specs.Findings.{Finding}
 use Rattle.table_builder.specs.Building.{building}
-use Rattle.command_frame.specs.declared.status.Status.TheVariants.{Refused}
+use Rattle.command_frame.specs.declared.status.Status.TheVariants.{Refused, Run as RunStatus}
 use Rattle.command_frame.specs.Answer.{outputs_of, reply_to}
 use Rattle.command_frame.proofs.Settled.{IsSettled, settled_done, settled_says, settled_read}
-use Rattle.cairo_commands.specs.Request.{Request, Walk, Asm, Dis, Tables, Check}
+use Rattle.cairo_commands.specs.Request.{Request, Walk, Asm, Dis, Run, Tables, Check}
 use Rattle.cairo_commands.specs.Reply.{task}
 use Rattle.cairo_commands.specs.RunFiles.{trace_format, memory_format}
 use Rattle.cairo_commands.specs.Programs.{text_format, program_format}
+use Rattle.cairo_commands.specs.HintFiles.{hints_format}
 use Rattle.cairo_commands.specs.TableInputs.{public_format, tables_format}
 use Rattle.cairo_commands.specs.Commands.Walk.{walked, walk_answer, refused_line as walk_refused}
 use Rattle.cairo_commands.specs.Commands.Asm.{program_answer, asm_answer}
 use Rattle.cairo_commands.specs.Commands.Dis.{text_answer, dis_answer}
+use Rattle.cairo_commands.specs.Commands.Run.{ended_answer, run_answer, refused_line as run_refused}
 use Rattle.cairo_commands.specs.Commands.Tables.{built_answer, tables_answer, refused_line as tables_refused}
 use Rattle.cairo_commands.specs.Commands.Check.{checked, check_answer, refused_line as check_refused}
 
@@ -36,6 +42,10 @@ settled_checked rows (verdict_is.Refused constraint row) = settled_says [] Refus
 settled_built : (tables : Name) (r : Result Contents Finding) → IsSettled (tables ∷ []) (built_answer tables r)
 settled_built tables (Ok columns) = settled_done (tables ∷ []) (built_answer tables (Ok columns)) refl refl
 settled_built tables (Err found) = settled_says (tables ∷ []) Refused (tables_refused found) tt (λ e. cc)
+
+settled_ended : (trace memory public tables : Name) (p : Listing) (r : Result Ran RunFault) → IsSettled (trace ∷ memory ∷ public ∷ tables ∷ []) (ended_answer trace memory public tables p r)
+settled_ended trace memory public tables p (Ok ran) = settled_done (trace ∷ memory ∷ public ∷ tables ∷ []) (ended_answer trace memory public tables p (Ok ran)) refl refl
+settled_ended trace memory public tables p (Err fault) = settled_says (trace ∷ memory ∷ public ∷ tables ∷ []) RunStatus (run_refused fault) tt (λ e. cc)
 
 module _ (files : Files) where
   settled_walk : (trace memory : Name) → IsSettled [] (walk_answer trace memory files)
@@ -74,11 +84,19 @@ module _ (files : Files) where
       settled_read (tables ∷ []) memory_format 4 memory files _ (λ cells.
       settled_built tables (building p u (memory_of cells) states)))))
 
+  pub settled_run : (program hints trace memory public tables : Name) → IsSettled (trace ∷ memory ∷ public ∷ tables ∷ []) (run_answer program hints trace memory public tables files)
+  unfolding run_answer
+  settled_run program hints trace memory public tables =
+      settled_read (trace ∷ memory ∷ public ∷ tables ∷ []) program_format 1 program files _ (λ p.
+      settled_read (trace ∷ memory ∷ public ∷ tables ∷ []) hints_format 2 hints files _ (λ h.
+      settled_ended trace memory public tables p (run_of (rules_of p.builtins) p h)))
+
   settled_task : (request : Request) → IsSettled (task request).outputs ((task request).answer files)
   unfolding task
   settled_task (Walk trace memory) = settled_walk trace memory
   settled_task (Asm text program) = settled_asm text program
   settled_task (Dis program text) = settled_dis program text
+  settled_task (Run program hints trace memory public tables) = settled_run program hints trace memory public tables
   settled_task (Tables program public trace memory tables) = settled_tables program public trace memory tables
   settled_task (Check program public tables) = settled_check program public tables
 

@@ -2,6 +2,7 @@ pub mod Request
 pub mod RunFiles
 pub mod Programs
 pub mod TableInputs
+pub mod HintFiles
 pub mod Commands
 pub mod Reply
 pub mod Means

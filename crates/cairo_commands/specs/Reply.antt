@@ -7,10 +7,11 @@ use Rattle.command_words.specs.Names.{texts}
 use Rattle.command_words.specs.Forms.{Part, Input as IsInput, Output as IsOutput, Number as IsNumber, CommandForm}
 use Rattle.command_words.specs.Calls.{Call, outputs_among, asked}
 use Rattle.command_frame.specs.Answer.{Answer, Input, Task, reply_to}
-use Rattle.cairo_commands.specs.Request.{Request, Walk, Asm, Dis, Tables, Check, request_for}
+use Rattle.cairo_commands.specs.Request.{Request, Walk, Asm, Dis, Run, Tables, Check, request_for}
 use Rattle.cairo_commands.specs.Commands.Walk.{walk_task}
 use Rattle.cairo_commands.specs.Commands.Asm.{asm_task}
 use Rattle.cairo_commands.specs.Commands.Dis.{dis_task}
+use Rattle.cairo_commands.specs.Commands.Run.{run_task}
 use Rattle.cairo_commands.specs.Commands.Tables.{tables_task}
 use Rattle.cairo_commands.specs.Commands.Check.{check_task}
 
@@ -23,6 +24,7 @@ unfoldable pub task : Request → Task
 task (Walk trace memory) = walk_task trace memory
 task (Asm text program) = asm_task text program
 task (Dis program text) = dis_task program text
+task (Run program hints trace memory public tables) = run_task program hints trace memory public tables
 task (Tables program public trace memory tables) = tables_task program public trace memory tables
 task (Check program public tables) = check_task program public tables
 

@@ -10,6 +10,7 @@ pub data Request : Type 0 where
   Walk : (trace memory : Name) → Request
   Asm : (text program : Name) → Request
   Dis : (program text : Name) → Request
+  Run : (program hints trace memory public tables : Name) → Request
   Tables : (program public trace memory tables : Name) → Request
   Check : (program public tables : Name) → Request
 
@@ -18,6 +19,7 @@ unfoldable pub request_with : Command → (ℕ → Name) → Request
 request_with command.Walk word = Walk (word 1) (word 2)
 request_with command.Asm word = Asm (word 1) (word 2)
 request_with command.Dis word = Dis (word 1) (word 2)
+request_with command.Run word = Run (word 1) (word 2) (word 3) (word 4) (word 5) (word 6)
 request_with command.Tables word = Tables (word 1) (word 2) (word 3) (word 4) (word 5)
 request_with command.Check word = Check (word 1) (word 2) (word 3)
 

@@ -10,6 +10,7 @@ ghost use Rattle.cairo_commands.specs.Perform.{Performs};
 
 mod again;
 mod commands;
+mod hint_files;
 mod laws;
 mod programs;
 mod run_files;
@@ -23,6 +24,7 @@ use command_words::{Command, Form, form};
 use commands::asm::{AsmNames, asm};
 use commands::check::{CheckNames, check};
 use commands::dis::{DisNames, dis};
+use commands::run::{RunNames, run};
 use commands::tables::{TablesNames, tables};
 use commands::walk::{WalkNames, walk};
 use file_port::{Sink, Store};
@@ -37,6 +39,8 @@ use tools::Tools;
 /// - `walk TRACE MEMORY` checks whether each step of a trace is the transition of the Cairo machine in a memory.
 /// - `asm TEXT PROGRAM` assembles an assembly text, and writes the program file.
 /// - `dis PROGRAM TEXT` shows the words of a program file, and writes them as an assembly text.
+/// - `run PROGRAM HINTS TRACE MEMORY PUBLIC TABLES` runs a program with its hints, and writes the run: its trace, its
+///   memory, its public input and its tables. `walk` and `check` accept what it writes.
 /// - `tables PROGRAM PUBLIC TRACE MEMORY TABLES` builds the tables of a run, and writes their file, which `check`
 ///   accepts.
 /// - `check PROGRAM PUBLIC TABLES` checks whether tables meet every written constraint. Accepted tables describe a run of
@@ -87,6 +91,7 @@ fn work<'w, S: Store>(tools: Tools<'_, S>, form: &Form<'w>) -> Result<Work<'w>, 
         Command::Walk => walk(tools, WalkNames::of(form)),
         Command::Asm => asm(tools, AsmNames::of(form)),
         Command::Dis => dis(tools, DisNames::of(form)),
+        Command::Run => run(tools, RunNames::of(form)),
         Command::Tables => tables(tools, TablesNames::of(form)),
         Command::Check => check(tools, CheckNames::of(form)),
     }

@@ -2,14 +2,14 @@
 use Rattle.std.specs.Prelude.{◌≡◌, ◌≢◌, ◌≤◌, ◌⊎◌, ℕ, ◌+◌, ⊤, List, [], length, map, Option, Some, None, Result, Ok, Err, OnOk, IfOk, IfErr, IfSome, string_bytes}
 use Rattle.std.specs.Option.{option_map}
 use Rattle.std.specs.Io.KnownBytes.{Appends, Keeps}
-use Rattle.file_port.specs.Files.{Name, Files}
-use Rattle.file_port.specs.Counts.{Counts, Rose}
+use Rattle.file_port.specs.Files.{Name}
+use Rattle.file_port.specs.Counts.{Counts}
 use Rattle.file_port.specs.Ports.{AppendsPrefix}
 use Rattle.file_port.specs.Seen.{Seen}
 use Rattle.command_frame.specs.declared.status.Status.{Status}
-use Rattle.command_frame.specs.declared.status.Status.TheVariants.{Done, Refused, Sink, Store as StoreFailed, Memory as NoMemory}
+use Rattle.command_frame.specs.declared.status.Status.TheVariants.{Done, Refused, Run, Sink, Store as StoreFailed, Memory as NoMemory}
 use Rattle.command_frame.specs.declared.ending.Conclusion.{Conclusion}
-use Rattle.command_frame.specs.declared.ending.Conclusion.TheVariants.{Done as IsDone, Refused as IsRefused}
+use Rattle.command_frame.specs.declared.ending.Conclusion.TheVariants.{Done as IsDone, Refused as IsRefused, RunRefused as IsRunRefused}
 use Rattle.command_frame.specs.declared.ending.Refusal.{Refusal}
 use Rattle.command_frame.specs.declared.ending.Refusal.TheVariants.{Usage, Unspelled, OverLimit, Missing, StoreFault, OutOfMemory}
 use Rattle.command_frame.specs.declared.ending.Work.{Work}
@@ -36,6 +36,7 @@ outputs_in outputs = map (λ output. (output.name.now, output.bytes.items)) outp
 abbrev pub status_of : Conclusion → Status
 status_of IsDone = Done
 status_of IsRefused = Refused
+status_of IsRunRefused = Run
 
 -- What a command that came to an ending of its own is answered with. Own.
 abbrev pub work_answer : Work → Answer

@@ -24,6 +24,8 @@ pub enum Conclusion {
     Done,
     /// It refuses what its files spell.
     Refused,
+    /// It refuses the run that its files ask for.
+    RunRefused,
 }
 
 impl Conclusion {
@@ -34,6 +36,7 @@ impl Conclusion {
         match self {
             Conclusion::Done => Status::Done,
             Conclusion::Refused => Status::Refused,
+            Conclusion::RunRefused => Status::Run,
         }
     }
 }
@@ -79,11 +82,22 @@ impl<'w> Work<'w> {
     {
         let mut outputs = Vec::new(alloc);
         outputs.push(Output { name, bytes })?;
-        Ok(Work {
+        Ok(Work::of_outputs(outputs, line))
+    }
+
+    /// Work that is done, with several files to write, in their order.
+    pub fn of_outputs(outputs: Vec<Output<'w>>, line: String) -> Work<'w>
+        ensures { work_answer result ≡ record {
+          status = Status.Done;
+          writes = outputs_in outputs.entry.items;
+          line = string_bytes line;
+        } }
+    {
+        Work {
             conclusion: Conclusion::Done,
             outputs,
             line,
-        })
+        }
     }
 }
 

@@ -14,6 +14,8 @@ pub enum Status {
     Words,
     /// 3: an input was read whole and spells nothing, for the fault that the line tells.
     Input,
+    /// 4: a run is refused, as the line says.
+    Run,
     /// 5: a call of the store failed.
     Store,
     /// 6: a call of the sink failed.
@@ -36,6 +38,7 @@ impl Status {
             Status::Refused => 1,
             Status::Words => 2,
             Status::Input => 3,
+            Status::Run => 4,
             Status::Store => 5,
             Status::Sink => 6,
             Status::Memory => 7,

@@ -9,6 +9,7 @@ mod forms;
 mod large;
 mod loop_of_twenty;
 mod one_return;
+mod run;
 mod steps;
 mod tables;
 mod vectors;

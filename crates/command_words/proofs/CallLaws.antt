@@ -227,7 +227,8 @@ alone (suc zero) form few is = subst StandsAlone is (refl, tt)
 alone (suc (suc zero)) form few is = subst StandsAlone is (refl, tt)
 alone (suc (suc (suc zero))) form few is = subst StandsAlone is (refl, tt)
 alone (suc (suc (suc (suc zero)))) form few is = subst StandsAlone is (refl, tt)
-alone (suc (suc (suc (suc (suc more))))) form few is = absurd (omega arith)
+alone (suc (suc (suc (suc (suc zero))))) form few is = subst StandsAlone is (refl, tt)
+alone (suc (suc (suc (suc (suc (suc more)))))) form few is = absurd (omega arith)
 
 pub AskFor-told : (words : List Name) (call : Call) → asked words ≡ Some call → AskFor words call
 unfolding call_in

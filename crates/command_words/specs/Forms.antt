@@ -2,7 +2,7 @@
 use Rattle.std.specs.Prelude.{ℕ, Bool, false, List, [], ◌∷◌, ◌++◌, map, codes, if◌then◌else◌}
 use Rattle.std.specs.List.{flat_map}
 use Rattle.command_words.specs.declared.table.Command.{Command}
-use Rattle.command_words.specs.declared.table.Command.TheVariants.{Walk, Asm, Dis, Tables, Check}
+use Rattle.command_words.specs.declared.table.Command.TheVariants.{Walk, Asm, Dis, Run, Tables, Check}
 use Rattle.command_words.specs.declared.table.Part.{Part as CodePart}
 use Rattle.command_words.specs.declared.table.Part.TheVariants as code
 use Rattle.command_words.specs.declared.table.CommandForm.{CommandForm as CodeForm}
@@ -31,6 +31,7 @@ forms =
     on_one_worker Walk (codes "walk") (Input (codes "TRACE") ∷ Input (codes "MEMORY") ∷ [])
     ∷ on_one_worker Asm (codes "asm") (Input (codes "TEXT") ∷ Output (codes "PROGRAM") ∷ [])
     ∷ on_one_worker Dis (codes "dis") (Input (codes "PROGRAM") ∷ Output (codes "TEXT") ∷ [])
+    ∷ on_one_worker Run (codes "run") (Input (codes "PROGRAM") ∷ Input (codes "HINTS") ∷ Output (codes "TRACE") ∷ Output (codes "MEMORY") ∷ Output (codes "PUBLIC") ∷ Output (codes "TABLES") ∷ [])
     ∷ on_one_worker Tables (codes "tables") (Input (codes "PROGRAM") ∷ Input (codes "PUBLIC") ∷ Input (codes "TRACE") ∷ Input (codes "MEMORY") ∷ Output (codes "TABLES") ∷ [])
     ∷ on_one_worker Check (codes "check") (Input (codes "PROGRAM") ∷ Input (codes "PUBLIC") ∷ Input (codes "TABLES") ∷ [])
     ∷ []

@@ -14,6 +14,8 @@ pub enum Command {
     Asm,
     /// The words of a program file are shown as an assembly text.
     Dis,
+    /// A program is run with its hints, and the run and its tables are written.
+    Run,
     /// Tables are built of a run.
     Tables,
     /// Do tables meet every written constraint?
@@ -107,6 +109,19 @@ const FORMS: &[CommandForm] = &[
         command: Command::Dis,
         word: "dis",
         parts: &[Part::Input("PROGRAM"), Part::Output("TEXT")],
+        takes_workers: false,
+    },
+    CommandForm {
+        command: Command::Run,
+        word: "run",
+        parts: &[
+            Part::Input("PROGRAM"),
+            Part::Input("HINTS"),
+            Part::Output("TRACE"),
+            Part::Output("MEMORY"),
+            Part::Output("PUBLIC"),
+            Part::Output("TABLES"),
+        ],
         takes_workers: false,
     },
     CommandForm {

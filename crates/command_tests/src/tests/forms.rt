@@ -20,6 +20,18 @@ const CALLS: &[(&[&str], Option<(Command, usize)>)] = &[
     (&["asm", "a", "b"], Some((Command::Asm, 2))),
     (&["dis", "a", "b"], Some((Command::Dis, 2))),
     (
+        &["run", "a", "b", "c", "d", "e", "f"],
+        Some((Command::Run, 6)),
+    ),
+    (
+        &["run", "a", "a", "c", "d", "e", "f"],
+        Some((Command::Run, 6)),
+    ),
+    (
+        &["run", "a", "b", "c", "d", "--workers", "2"],
+        Some((Command::Run, 6)),
+    ),
+    (
         &["tables", "a", "b", "c", "d", "e"],
         Some((Command::Tables, 5)),
     ),
@@ -43,7 +55,20 @@ const CALLS: &[(&[&str], Option<(Command, usize)>)] = &[
     (&["tables", "a", "b", "c", "d", "e", "--workers", "2"], None),
     (&["check", "a", "b"], None),
     (&["check", "a", "b", "c", "--workers", "2"], None),
-    (&["run", "a", "b", "c", "d", "e", "f"], None),
+    (&["run"], None),
+    (&["run", "a", "b", "c", "d", "e"], None),
+    (&["run", "a", "b", "c", "d", "e", "f", "g"], None),
+    (&["run", "a", "b", "c", "d", "c", "f"], None),
+    (&["run", "a", "b", "c", "d", "e", "e"], None),
+    (&["run", "a", "b", "a", "d", "e", "f"], None),
+    (&["run", "a", "b", "c", "d", "e", "b"], None),
+    (&["run", "a", "", "c", "d", "e", "f"], None),
+    (&["run", "a", "b", "c", "d", "", "f"], None),
+    (
+        &["run", "a", "b", "c", "d", "e", "f", "--workers", "2"],
+        None,
+    ),
+    (&["runs", "a", "b", "c", "d", "e", "f"], None),
 ];
 
 /// The command that the words name, and how many words follow.
@@ -66,6 +91,7 @@ const USAGES: &[&str] = &[
     "walk TRACE MEMORY",
     "asm TEXT PROGRAM",
     "dis PROGRAM TEXT",
+    "run PROGRAM HINTS TRACE MEMORY PUBLIC TABLES",
     "tables PROGRAM PUBLIC TRACE MEMORY TABLES",
     "check PROGRAM PUBLIC TABLES",
 ];
@@ -285,6 +311,8 @@ const POSITIONS: &[(&[&str], usize, &str)] = &[
     (&["check", "a", "b", "c"], 1, "a"),
     (&["check", "a", "b", "c"], 3, "c"),
     (&["check", "a", "b", "c"], 4, ""),
+    (&["run", "a", "b", "c", "d", "e", "f"], 2, "b"),
+    (&["run", "a", "b", "c", "d", "e", "f"], 6, "f"),
 ];
 
 #[test]
