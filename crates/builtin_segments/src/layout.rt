@@ -5,7 +5,7 @@ ghost use Rattle.builtin_segments.specs.Layout.{builtin_count};
 
 use program_file::Builtins;
 
-/// The execution segment.
+/// The execution segment: in it the start stack lies, and ap and fp begin.
 pub const EXECUTION: u32 = 1;
 
 /// The segment of the first builtin.

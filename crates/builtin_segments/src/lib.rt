@@ -9,5 +9,5 @@ mod start;
 
 pub use cells::{CellCause, CellFault, place_cell};
 pub use laws::{adding_laws, start_laws};
-pub use layout::{Layout, Stops};
+pub use layout::{EXECUTION, Layout, Stops};
 pub use start::{first_state, start_segments};
