@@ -1,7 +1,15 @@
 -- Range cells and their three limbs of 16 bits.
-use Rattle.std.specs.Prelude.{ℕ, ◌≡◌, ◌/◌, ◌%◌, ◌^◌, ◌<◌, Bool, ◌==◌}
+use Rattle.std.specs.Prelude.{ℕ, ◌≡◌, ◌/◌, ◌%◌, ◌^◌, ◌<◌, ◌≤◌, Bool, ◌==◌}
 use Rattle.goldilocks.specs.Field.{field_add, field_mul}
 use Rattle.range_columns.specs.declared.RangeRow.{RangeRow}
+
+-- The most limbs that a range cell may have. Own.
+abbrev pub limb_limit : ℕ
+limb_limit = 3
+
+-- A range cell may have so many limbs: one, two or three. Own.
+abbrev pub IsWidth : ℕ → Type 0
+IsWidth limbs = (1 ≤ limbs) × (limbs ≤ limb_limit)
 
 -- l0 + 2^16 l1 + 2^32 l2 in the field, the right side of V1. Own.
 unfoldable pub joined_limbs : RangeRow → ℕ

@@ -12,6 +12,9 @@ pub use laws::range_fault_laws;
 pub use limbs::{limb_fault, split};
 pub use sorting::sort_range;
 
+/// The most limbs that a range cell may have, 3.
+pub const LIMB_LIMIT: u8 = 3;
+
 /// A range cell with its three limbs, `value = l0 + 2^16 l1 + 2^32 l2`.
 #[derive(Clone, Copy, Debug, PartialEq, Eq)]
 pub struct RangeRow {
