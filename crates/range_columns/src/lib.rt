@@ -15,16 +15,17 @@ pub use sorting::sort_range;
 /// The most limbs that a range cell may have, 3.
 pub const LIMB_LIMIT: u8 = 3;
 
-/// A range cell with its three limbs, `value = l0 + 2^16 l1 + 2^32 l2`.
+/// A range cell and its limbs: `value = l0` for cells of one limb, `value = l0 + 2^16 l1` for those of two, and
+/// `value = l0 + 2^16 l1 + 2^32 l2` for those of three.
 #[derive(Clone, Copy, Debug, PartialEq, Eq)]
 pub struct RangeRow {
     /// The cell.
     pub value: Felt,
     /// The lowest 16 bits.
     pub l0: Felt,
-    /// The next 16 bits.
+    /// The next 16 bits. In cells of one limb `split` repeats `l0` here, and no equation asks for it.
     pub l1: Felt,
-    /// The highest 16 bits.
+    /// The highest 16 bits. In cells of one or two limbs `split` repeats `l0` here, and no equation asks for it.
     pub l2: Felt,
 }
 
