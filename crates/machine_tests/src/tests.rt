@@ -2,6 +2,7 @@
 
 mod field;
 mod relocating;
+mod rules;
 mod running;
 mod segment_values;
 mod starts;
