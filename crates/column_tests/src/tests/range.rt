@@ -5,21 +5,50 @@ ghost use Rattle.range_columns.specs.Equations.{IsWithin};
 
 use super::{NO_MEMORY, felt, felts};
 use goldilocks::Felt;
-use range_columns::{RangeColumns, RangeRow, limb_fault, range_fault, sort_range, split};
+use range_columns::{
+    LIMB_LIMIT, RangeColumns, RangeRow, limb_fault, range_fault, sort_range, split,
+};
 use std::alloc::Global;
 use std::process::Abort;
 
-/// A number, and its limbs where it has three.
-const SPLITS: &[(u64, Option<[u64; 3]>)] = &[
-    (0, Some([0, 0, 0])),
-    (65535, Some([65535, 0, 0])),
-    (65536, Some([0, 1, 0])),
-    (0x1234_5678_9abc, Some([0x9abc, 0x5678, 0x1234])),
-    (281474976710655, Some([65535, 65535, 65535])),
-    (281474976710656, None),
+/// A number of limbs, a number, and its limbs where it has no more.
+type Split = (u8, u64, Option<[u64; 3]>);
+
+const SPLITS: &[Split] = &[
+    (3, 0, Some([0, 0, 0])),
+    (3, 65535, Some([65535, 0, 0])),
+    (3, 65536, Some([0, 1, 0])),
+    (3, 0xffff_ffff, Some([65535, 65535, 0])),
+    (3, 0x1_0000_0000, Some([0, 0, 1])),
+    (3, 0x1234_5678_9abc, Some([0x9abc, 0x5678, 0x1234])),
+    (3, 281474976710655, Some([65535, 65535, 65535])),
+    (3, 281474976710656, None),
     // 2^48 and three different limbs
-    (0x1_1234_5678_9abc, None),
-    (18446744069414584320, None),
+    (3, 0x1_1234_5678_9abc, None),
+    (3, 18446744069414584320, None),
+    (2, 0, Some([0, 0, 0])),
+    (2, 5, Some([5, 0, 5])),
+    (2, 65535, Some([65535, 0, 65535])),
+    (2, 65536, Some([0, 1, 0])),
+    (2, 0x5678_9abc, Some([0x9abc, 0x5678, 0x9abc])),
+    (2, 0xffff_ffff, Some([65535, 65535, 65535])),
+    (2, 0x1_0000_0000, None),
+    // 2^32 and two different limbs
+    (2, 0x1_5678_9abc, None),
+    (2, 281474976710655, None),
+    (2, 281474976710656, None),
+    (2, 18446744069414584320, None),
+    (1, 0, Some([0, 0, 0])),
+    (1, 5, Some([5, 5, 5])),
+    (1, 65535, Some([65535, 65535, 65535])),
+    (1, 65536, None),
+    // 2^16 and a limb
+    (1, 0x1_9abc, None),
+    (1, 0xffff_ffff, None),
+    (1, 0x1_0000_0000, None),
+    (1, 281474976710655, None),
+    (1, 281474976710656, None),
+    (1, 18446744069414584320, None),
 ];
 
 /// The row of a value and its limbs.
@@ -34,10 +63,11 @@ fn row(of: &[u64; 4]) -> RangeRow {
 
 #[test]
 fn limbs_of_sixteen_bits(rt: HostRuntime) {
-    for (number, limbs) in SPLITS {
-        let found = split(felt(*number));
+    for (width, number, limbs) in SPLITS {
+        assert!(rt; 1 <= *width && *width <= LIMB_LIMIT);
+        let found = split(felt(*number), *width);
         let expected = limbs.map(|l| row(&[*number, l[0], l[1], l[2]]));
-        assert!(rt; found == expected, "{number}");
+        assert!(rt; found == expected, "{number} in {width}");
     }
 }
 
@@ -56,27 +86,120 @@ const WIDE: [u64; 4] = [4294967295, 0, 0, 4294967296];
 /// A value of which only the low 48 bits are those of the limbs.
 const HIGH: [u64; 4] = [0x1_1234_5678_9abc, 0x9abc, 0x5678, 0x1234];
 
-/// A name, rows, and the first whose value isn't that of its limbs.
-type Limbs = (&'static str, &'static [[u64; 4]], Option<usize>);
+/// A value in two limbs, with the first again as the third.
+const TWO: [u64; 4] = [0x5678_9abc, 0x9abc, 0x5678, 0x9abc];
+
+/// The same with a third limb of its own.
+const TWO_AND_OTHER: [u64; 4] = [0x5678_9abc, 0x9abc, 0x5678, 0x1234];
+
+/// The same with a third limb of 0.
+const TWO_AND_NONE: [u64; 4] = [0x5678_9abc, 0x9abc, 0x5678, 0];
+
+/// A second limb that isn't narrow: 2^16 times 2^48 is 2^32 - 1 modulo p.
+const WIDE_SECOND: [u64; 4] = [4294967295, 0, 281474976710656, 0];
+
+/// A value in one limb, with the same again as the others.
+const ONE: [u64; 4] = [0x9abc, 0x9abc, 0x9abc, 0x9abc];
+
+/// The same with other limbs of their own.
+const ONE_AND_OTHERS: [u64; 4] = [0x9abc, 0x9abc, 0x5678, 0x1234];
+
+/// The same with other limbs of 0.
+const ONE_AND_NONE: [u64; 4] = [0x9abc, 0x9abc, 0, 0];
+
+/// The first limb isn't the value, but the second is.
+const ONE_BEHIND: [u64; 4] = [0x9abc, 0, 0x9abc, 0x9abc];
+
+/// A first limb that isn't narrow.
+const WIDE_FIRST: [u64; 4] = [0x5678_9abc, 0x5678_9abc, 0, 0];
+
+/// Only zeros.
+const ZEROS: [u64; 4] = [0, 0, 0, 0];
+
+/// A name, rows, and with one, two and three limbs the first row whose value isn't that of its limbs.
+type Limbs = (&'static str, &'static [[u64; 4]], [Option<usize>; 3]);
 
 const LIMBS: &[Limbs] = &[
-    ("no rows", &[], None),
-    ("a whole row", &[WHOLE], None),
-    ("limbs in another order", &[WHOLE, TURNED], Some(1)),
-    ("the first two limbs swapped", &[WHOLE, SWAPPED], Some(1)),
-    ("a limb that isn't narrow", &[WIDE], None),
-    ("the first of two", &[TURNED, TURNED], Some(0)),
-    ("a value above its limbs by 2^48", &[WHOLE, HIGH], Some(1)),
+    ("no rows", &[], [None, None, None]),
+    ("zeros", &[ZEROS], [None, None, None]),
+    ("a whole row", &[WHOLE], [Some(0), Some(0), None]),
+    (
+        "limbs in another order",
+        &[WHOLE, TURNED],
+        [Some(0), Some(0), Some(1)],
+    ),
+    (
+        "the first two limbs swapped",
+        &[WHOLE, SWAPPED],
+        [Some(0), Some(0), Some(1)],
+    ),
+    (
+        "a limb that isn't narrow",
+        &[WIDE],
+        [Some(0), Some(0), None],
+    ),
+    (
+        "the first of two",
+        &[TURNED, TURNED],
+        [Some(0), Some(0), Some(0)],
+    ),
+    (
+        "a value above its limbs by 2^48",
+        &[WHOLE, HIGH],
+        [Some(0), Some(0), Some(1)],
+    ),
+    ("two limbs", &[TWO], [Some(0), None, Some(0)]),
+    (
+        "two limbs and another",
+        &[TWO, TWO_AND_OTHER],
+        [Some(0), None, Some(0)],
+    ),
+    ("two limbs and 0", &[TWO_AND_NONE], [Some(0), None, None]),
+    (
+        "a second limb that isn't narrow",
+        &[WIDE_SECOND],
+        [Some(0), None, None],
+    ),
+    (
+        "two limbs, then three",
+        &[TWO, WHOLE],
+        [Some(0), Some(1), Some(0)],
+    ),
+    ("one limb", &[ONE], [None, Some(0), Some(0)]),
+    (
+        "one limb and others",
+        &[ONE, ONE_AND_OTHERS],
+        [None, Some(0), Some(0)],
+    ),
+    ("one limb and 0", &[ONE_AND_NONE], [None, None, None]),
+    (
+        "one limb behind the first",
+        &[ONE, ONE_BEHIND],
+        [Some(1), Some(0), Some(0)],
+    ),
+    (
+        "a first limb that isn't narrow",
+        &[WIDE_FIRST],
+        [None, None, None],
+    ),
+    (
+        "one limb, then two",
+        &[ONE, TWO],
+        [Some(1), Some(0), Some(0)],
+    ),
 ];
 
 #[test]
 fn values_are_those_of_their_limbs(rt: HostRuntime) {
-    for (name, of, fault) in LIMBS {
+    for (name, of, faults) in LIMBS {
         let mut rows = Vec::new(rt.alloc());
         for values in *of {
             rows.push(row(values)).expect(&rt, NO_MEMORY);
         }
-        assert!(rt; limb_fault(&rows) == *fault, "{name}");
+        for width in 1..=LIMB_LIMIT {
+            let fault = faults[usize::from(width) - 1];
+            assert!(rt; limb_fault(&rows, width) == fault, "{name} in {width}");
+        }
     }
 }
 
