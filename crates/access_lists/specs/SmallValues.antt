@@ -11,7 +11,7 @@ use Rattle.access_lists.specs.declared.values.SmallValues.{SmallValues}
 unfoldable pub row_offsets : Row → List Felt
 row_offsets r = r.off_dst ∷ r.off_op0 ∷ r.off_op1 ∷ []
 
--- The three limbs of a range cell. The whitepaper's builtin for range checks.
+-- The three limbs of a range row, also where a range cell has fewer. The whitepaper's builtin for range checks.
 unfoldable pub limbs : RangeRow → List Felt
 limbs r = r.l0 ∷ r.l1 ∷ r.l2 ∷ []
 

@@ -14,7 +14,7 @@ use std::alloc::{AllocError, Global};
 pub struct SmallValues<'a> {
     /// Rows, each with its three offsets.
     pub rows: &'a [Row],
-    /// The range cells, each with its three limbs.
+    /// The range rows, each with its three limbs, whatever the number of limbs of a range cell.
     pub range_rows: &'a [RangeRow],
     /// The fillers.
     pub fillers: &'a [Felt],
@@ -55,7 +55,7 @@ pub fn row_offsets(row: &Row) -> [Felt; 3]
     [row.off_dst, row.off_op0, row.off_op1]
 }
 
-/// Adds the three limbs of each range cell.
+/// Adds the three limbs of each range row.
 pub fn push_limbs(all: &mut Vec<Felt>, rows: &[RangeRow]) -> Result<(), AllocError>
     ensures { OnOk result (all.new.items ≡ all.old.items ++ flat_map limbs rows.now) }
 {
@@ -65,7 +65,7 @@ pub fn push_limbs(all: &mut Vec<Felt>, rows: &[RangeRow]) -> Result<(), AllocErr
     Ok(())
 }
 
-/// The three limbs of a range cell.
+/// The three limbs of a range row, also where a range cell has fewer.
 pub fn limbs(row: &RangeRow) -> [Felt; 3]
     ensures { result ≡ limbs row.now }
 {
