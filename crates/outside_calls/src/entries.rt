@@ -13,8 +13,6 @@ pub enum Entry<'a> {
     File(&'a str),
     /// Some more bytes of the file.
     Part(Part<'a>),
-    /// The next call tells only the names of these files.
-    Hide(&'a str),
     /// A call that has to be done, and of which nothing is told.
     Need(&'a str),
     /// A name, and the call of which one line is told.
@@ -48,7 +46,6 @@ pub fn read_entry(line: &str) -> Result<Entry<'_>> {
         "" | "#" => Ok(Entry::Blank),
         "store" => Ok(Entry::Store),
         "file" => Ok(Entry::File(rest)),
-        "hide" => Ok(Entry::Hide(rest)),
         "need" => Ok(Entry::Need(rest)),
         "call" => {
             let (name, words) = divided(rest);

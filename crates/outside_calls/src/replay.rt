@@ -14,8 +14,6 @@ pub struct Replay {
     store: MemoryStore,
     /// The file whose parts are read, with its bytes so far.
     file: Option<(String, Vec<u8>)>,
-    /// The files of which the next call tells only the names.
-    hidden: Vec<String>,
 }
 
 impl Replay {
@@ -25,7 +23,6 @@ impl Replay {
             alloc,
             store: no_files(alloc),
             file: None,
-            hidden: Vec::new(alloc),
         }
     }
 
@@ -65,7 +62,6 @@ impl Replay {
                 let name = String::from_str(self.alloc, name)?;
                 self.file = Some((name, Vec::new(self.alloc)));
             }
-            Entry::Hide(names) => self.hidden = words_of(self.alloc, names)?,
             Entry::Need(words) => self.need(words)?,
             Entry::Call(name, words) => return Ok(Some(self.call(name, words)?)),
         }
@@ -93,11 +89,9 @@ impl Replay {
         for (word, mark) in words.iter().zip(&before) {
             let file = self.store.file(word.as_str());
             if mark_of(file) != *mark {
-                let hidden = self.hidden.contains(word);
-                told.push_str(file_told(self.alloc, word.as_str(), file, hidden)?.as_str())?;
+                told.push_str(file_told(self.alloc, word.as_str(), file)?.as_str())?;
             }
         }
-        self.hidden.clear();
         Ok(told)
     }
 

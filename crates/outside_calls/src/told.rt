@@ -29,16 +29,10 @@ pub fn line_told(printed: &[u8]) -> &str {
     }
 }
 
-/// A file after a call: its name, length and SHA-256. Of a hidden one only the name is told.
-pub fn file_told(
-    alloc: Global,
-    name: &str,
-    file: Option<&[u8]>,
-    hidden: bool,
-) -> Result<String, AllocError> {
+/// A file after a call: its name, length and SHA-256.
+pub fn file_told(alloc: Global, name: &str, file: Option<&[u8]>) -> Result<String, AllocError> {
     match file {
         None => format!(in alloc; " | {name} is gone"),
-        Some(_) if hidden => format!(in alloc; " | {name}"),
         Some(bytes) => {
             let digest = hex::encode(alloc, Sha256::digest(bytes))?;
             format!(in alloc; " | {name} {} {digest}", bytes.len())

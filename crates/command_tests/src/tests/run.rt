@@ -6,11 +6,14 @@ use super::check::P;
 use super::contents::Bytes::{Absent, Long, Numbers, Raw, Repeated, Tables, Text};
 use super::contents::{Bytes, Change, said};
 use super::vectors::{
-    FOUR_STEPS, FOUR_STEPS_PUBLIC, JUMP_NOT_TAKEN, JUMP_NOT_TAKEN_MEMORY, JUMP_NOT_TAKEN_PROGRAM,
-    JUMP_NOT_TAKEN_PUBLIC, JUMP_NOT_TAKEN_TRACE, JUMP_TAKEN, JUMP_TAKEN_MEMORY, JUMP_TAKEN_PROGRAM,
-    JUMP_TAKEN_PUBLIC, JUMP_TAKEN_TRACE,
+    BOTH_RES_FLAGS_PROGRAM, FOUR_STEPS, FOUR_STEPS_PUBLIC, JUMP_NOT_TAKEN, JUMP_NOT_TAKEN_MEMORY,
+    JUMP_NOT_TAKEN_PROGRAM, JUMP_NOT_TAKEN_PUBLIC, JUMP_NOT_TAKEN_TRACE, JUMP_TAKEN,
+    JUMP_TAKEN_MEMORY, JUMP_TAKEN_PROGRAM, JUMP_TAKEN_PUBLIC, JUMP_TAKEN_TRACE,
 };
-use super::{MEMORY, Row, TRACE, check_call, check_failing_sink, check_file, store_of};
+use super::{
+    MEMORY, Row, TRACE, check_call, check_failing_sink, check_file, files_of, put_file, store_in,
+    store_of,
+};
 use cairo_commands::Status::{self, Done, Input, Limit, Missing, Store as StoreFault};
 use file_port::MemoryStore;
 use std::alloc::Global;
@@ -84,11 +87,28 @@ const RUNS: &[Run] = &[
     ),
 ];
 
-/// Looks at the files that are written, which are these; behind them there are none.
+/// What stands in the four files before a call.
+const BEFORE: &[Bytes] = &[
+    Raw(b"a trace"),
+    Raw(b"a memory"),
+    Raw(b"a public input"),
+    Raw(b"tables"),
+];
+
+/// A store of these inputs, and of a file under each name that is written. It fails at the call of this number.
+fn store_before(rt: &impl Abort, alloc: Global, inputs: &[Bytes], call: u32) -> MemoryStore {
+    let mut files = files_of(rt, alloc, RUN, inputs);
+    for (name, bytes) in WRITTEN.iter().zip(BEFORE) {
+        put_file(rt, alloc, &mut files, name, said(rt, alloc, *bytes));
+    }
+    store_in(rt, alloc, files, &[call])
+}
+
+/// Looks at the files that are written, which are these; those behind them are as before.
 fn check_outputs(rt: &impl Abort, alloc: Global, row: &str, store: &MemoryStore, files: &[Bytes]) {
-    for (place, name) in WRITTEN.iter().enumerate() {
-        let wanted = files.get(place).map(|bytes| said(rt, alloc, *bytes));
-        check_file(rt, row, store, name, wanted.as_deref());
+    for ((place, name), before) in WRITTEN.iter().enumerate().zip(BEFORE) {
+        let wanted = said(rt, alloc, *files.get(place).unwrap_or(before));
+        check_file(rt, row, store, name, Some(&wanted));
     }
 }
 
@@ -102,6 +122,17 @@ fn runs_are_written(rt: HostRuntime) {
         check_call(&rt, rt.alloc(), row, CHECK, &mut store, (Done, accepted));
     }
 }
+
+/// A call of a store that is never made.
+const NO_CALL: u32 = 1000000;
+
+/// Programs whose line can't be printed, and the files that are written.
+const UNPRINTED: &[(&str, Bytes, &[Bytes])] = &[
+    ("a run that is not printed", P, FOUR_STEPS_FILES),
+    ("a refusal that is not printed", OUTPUT, &[]),
+    ("a fault that is not printed", Raw(b"{"), &[]),
+    ("an input that is missing", Absent, &[]),
+];
 
 /// The calls of the store, of which each one fails, what is answered, and how many files are written before.
 const FAULTS: &[(&str, u32, Status, &str, usize)] = &[
@@ -133,14 +164,16 @@ const FAULTS: &[(&str, u32, Status, &str, usize)] = &[
 #[test]
 fn failing_calls_leave_the_files_before_them(rt: HostRuntime) {
     for (row, call, status, line, count) in FAULTS {
-        let mut store = store_of(&rt, rt.alloc(), RUN, &[P, NO_HINTS], &[*call]);
+        let mut store = store_before(&rt, rt.alloc(), &[P, NO_HINTS], *call);
         check_call(&rt, rt.alloc(), row, RUN, &mut store, (*status, line));
         let left = FOUR_STEPS_FILES.get(..*count).unwrap_or(&[]);
         check_outputs(&rt, rt.alloc(), row, &store, left);
     }
-    let mut store = store_of(&rt, rt.alloc(), RUN, &[P, NO_HINTS], &[]);
-    check_failing_sink(&rt, rt.alloc(), "a failing sink", RUN, &mut store);
-    check_outputs(&rt, rt.alloc(), "a failing sink", &store, FOUR_STEPS_FILES);
+    for (row, program, left) in UNPRINTED {
+        let mut store = store_before(&rt, rt.alloc(), &[*program, NO_HINTS], NO_CALL);
+        check_failing_sink(&rt, rt.alloc(), row, RUN, &mut store);
+        check_outputs(&rt, rt.alloc(), row, &store, left);
+    }
 }
 
 /// A program that names a builtin.
@@ -153,7 +186,7 @@ const JUMPS: Bytes = Raw(
     br#"{"builtins":[],"data":["0x10780017fff7fff","0x0","0x10780017fff7fff","0x0"],"end":2,"prime":"0xffffffff00000001","start":0}"#,
 );
 
-/// Files of which one is another, or none, and runs that are refused. Then nothing is written.
+/// Files of which one is another, or none, and runs that are refused. Then the four files are as before.
 const OTHERS: &[Row] = &[
     (
         "no program",
@@ -241,6 +274,12 @@ const OTHERS: &[Row] = &[
         "run: step 0: BadWord HighBit\n",
     ),
     (
+        "both flags of res",
+        &[Text(BOTH_RES_FLAGS_PROGRAM), NO_HINTS],
+        Status::Run,
+        "run: step 0: BadWord Undefined Res\n",
+    ),
+    (
         "the step limit",
         &[JUMPS, NO_HINTS],
         Status::Run,
@@ -249,9 +288,9 @@ const OTHERS: &[Row] = &[
 ];
 
 #[test]
-fn other_inputs_leave_no_files(rt: HostRuntime) {
+fn other_inputs_leave_the_files(rt: HostRuntime) {
     for (row, files, status, line) in OTHERS {
-        let mut store = store_of(&rt, rt.alloc(), RUN, files, &[]);
+        let mut store = store_before(&rt, rt.alloc(), files, NO_CALL);
         check_call(&rt, rt.alloc(), row, RUN, &mut store, (*status, line));
         check_outputs(&rt, rt.alloc(), row, &store, &[]);
     }
