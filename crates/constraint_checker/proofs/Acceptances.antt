@@ -7,6 +7,7 @@ use Rattle.range_columns.specs.declared.RangeFault.{RangeFault}
 use Rattle.range_columns.specs.Equations.{Q1, Q2, Q3, Q4, first_range_fault}
 use Rattle.range_columns.proofs.FirstFault.{no_fault_exactly as no_range_fault}
 use Rattle.program_file.specs.Listing.{Listing}
+use Rattle.range_columns.specs.Limbs.{limb_limit}
 use Rattle.public_input.specs.Statement.{Statement}
 use Rattle.table_file.specs.Tables.{Contents}
 use Rattle.constraint_checker.specs.declared.Verdict.TheVariants.{Accepted}
@@ -26,13 +27,13 @@ no_small_fault None e = refl
 no_small_fault (Some f) e = absurd (cc)
 
 module _ (program : Listing) (public : Statement) (tables : Contents) where
-  run_parts : (verdict_on (run_conditions program public tables) ≡ Accepted) ↔ ((verdict_on (start_conditions program public tables) ≡ Accepted) × (verdict_on (row_conditions 0 (rows_with_next tables)) ≡ Accepted) × (verdict_on (end_conditions program public tables) ≡ Accepted) × (verdict_on (limb_conditions 0 tables.range) ≡ Accepted))
+  run_parts : (verdict_on (run_conditions program public tables) ≡ Accepted) ↔ ((verdict_on (start_conditions program public tables) ≡ Accepted) × (verdict_on (row_conditions 0 (rows_with_next tables)) ≡ Accepted) × (verdict_on (end_conditions program public tables) ≡ Accepted) × (verdict_on (limb_conditions limb_limit 0 tables.range) ≡ Accepted))
   unfolding run_conditions
   run_parts =
       let start = start_conditions program public tables in
       let rows = row_conditions 0 (rows_with_next tables) in
       let end = end_conditions program public tables in
-      let limbs = limb_conditions 0 tables.range in (
+      let limbs = limb_conditions limb_limit 0 tables.range in (
         λ e.
             let a = (accepted-append (start ++ rows ++ end) limbs).0 e in
             let b = (accepted-append (start ++ rows) end).0 a.0 in
@@ -82,7 +83,7 @@ module _ (program : Listing) (public : Statement) (tables : Contents) where
         rows = (rows_accepted tables).0 parts.1;
         p6 = end.0;
         p7 = end.1;
-        v1 = (limbs_accepted tables.range).0 parts.3;
+        v1 = (limbs_accepted limb_limit tables.range).0 parts.3;
         m1 = m.0;
         m2 = m.1;
         m3 = m.2;
@@ -101,7 +102,7 @@ module _ (program : Listing) (public : Statement) (tables : Contents) where
       let end : verdict_on (end_conditions program public tables) ≡ Accepted = sym (end-met program public tables h.p6 h.p7) in
       by_groups program public tables
       ∙ (both_accepted (first_refused run memory) small).1 (
-        (both_accepted run memory).1 (run_parts.1 (start, (rows_accepted tables).1 h.rows, end, (limbs_accepted tables.range).1 h.v1), memory_parts.1 (h.m1, h.m2, h.m3)),
+        (both_accepted run memory).1 (run_parts.1 (start, (rows_accepted tables).1 h.rows, end, (limbs_accepted limb_limit tables.range).1 h.v1), memory_parts.1 (h.m1, h.m2, h.m3)),
         small_parts.1 (h.q1, h.q2, h.q3, h.q4),
       )
 

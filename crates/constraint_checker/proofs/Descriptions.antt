@@ -18,7 +18,7 @@ use Rattle.cpu_rows.proofs.FaultsOfRows.{length-states_of}
 use Rattle.memory_columns.specs.OneMemory.{Holds}
 use Rattle.memory_columns.proofs.OneMemory.{one_memory, no_fault_exactly as no_memory_fault}
 use Rattle.range_columns.specs.declared.RangeRow.{RangeRow}
-use Rattle.range_columns.specs.Limbs.{HasNarrowLimbs}
+use Rattle.range_columns.specs.Limbs.{HasNarrowLimbs, limb_limit, range_bound}
 use Rattle.range_columns.specs.Equations.{IsWithin}
 use Rattle.range_columns.proofs.LimbLaws.{narrow_value}
 use Rattle.range_columns.proofs.InRange.{within_range}
@@ -161,9 +161,9 @@ module _ (program : Listing) (public : Statement) (tables : Contents) (few : len
     l2 = narrow_value_within r.l2 (all 2 r.l0 (omega arith));
   }
 
-  narrow_cells : All (λ row. row.value.number < 2 ^ 48) tables.range
+  narrow_cells : All (λ row. row.value.number < range_bound limb_limit) tables.range
   narrow_cells k d lt =
-      narrow_value (get_or tables.range k d) (meets.v1 k d lt) (three_limbs (get_or tables.range k d) (each_piece (IsWithin public.rc_min public.rc_max) limbs tables.range small_parts.1 k d lt))
+      narrow_value limb_limit (get_or tables.range k d) (omega arith, omega arith) (meets.v1 k d lt) (three_limbs (get_or tables.range k d) (each_piece (IsWithin public.rc_min public.rc_max) limbs tables.range small_parts.1 k d lt))
 
   length-states : length (states tables) ≡ public.steps + 1
   length-states = length-states_of (map columns tables.rows) (registers tables.last) ∙ ap (λ n. n + 1) (length-map tables.rows columns ∙ meets.p1)

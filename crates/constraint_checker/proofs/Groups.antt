@@ -20,7 +20,7 @@ use Rattle.memory_columns.specs.declared.ListFault.{ListFault}
 use Rattle.memory_columns.specs.Equations.{pair_cmp, is_same_pair, m1, m2, pair_fault, first_memory_fault, fault_at as list_fault_at}
 use Rattle.range_columns.specs.declared.RangeFault.{RangeFault}
 use Rattle.range_columns.specs.declared.RangeRow.{RangeRow}
-use Rattle.range_columns.specs.Limbs.{V1, meets_v1, joined_limbs}
+use Rattle.range_columns.specs.Limbs.{V1, meets_v1, joined_limbs, limb_limit}
 use Rattle.range_columns.specs.Equations.{felt_cmp, is_same_felt, is_number, first_number, last_number, fault_at as range_fault_at, q1_fault, q2_fault, q3_fault, q4_fault, step_fault, first_range_fault}
 use Rattle.table_file.specs.Tables.{Contents}
 use Rattle.constraint_checker.specs.declared.Constraint.{Constraint}
@@ -74,46 +74,46 @@ rows_accepted tables =
 
 -- ---- range rows
 
-asked_of_limbs : ℕ → RangeRow → List Condition
-asked_of_limbs i row = condition (V 1) i (eqb row.value.number (joined_limbs row)) ∷ []
+asked_of_limbs : ℕ → ℕ → RangeRow → List Condition
+asked_of_limbs limbs i row = condition (V 1) i (eqb row.value.number (joined_limbs limbs row)) ∷ []
 
-limbs_hold : (k : ℕ) (row : RangeRow) → meets_v1 row ≡ true → verdict_on (asked_of_limbs k row) ≡ Accepted
+limbs_hold : (limbs k : ℕ) (row : RangeRow) → meets_v1 limbs row ≡ true → verdict_on (asked_of_limbs limbs k row) ≡ Accepted
 unfolding asked_of_limbs meets_v1
-limbs_hold k row e = holds_here (V 1) k (eqb row.value.number (joined_limbs row)) [] e
+limbs_hold limbs k row e = holds_here (V 1) k (eqb row.value.number (joined_limbs limbs row)) [] e
 
-limbs_fail : (k : ℕ) (row : RangeRow) → meets_v1 row ≡ false → verdict_on (asked_of_limbs k row) ≡ Refused (V 1) k
+limbs_fail : (limbs k : ℕ) (row : RangeRow) → meets_v1 limbs row ≡ false → verdict_on (asked_of_limbs limbs k row) ≡ Refused (V 1) k
 unfolding asked_of_limbs meets_v1
-limbs_fail k row e = fails_here (V 1) k (eqb row.value.number (joined_limbs row)) [] e
+limbs_fail limbs k row e = fails_here (V 1) k (eqb row.value.number (joined_limbs limbs row)) [] e
 
-met_limbs : (row : RangeRow) → V1 row → meets_v1 row ≡ true
+met_limbs : (limbs : ℕ) (row : RangeRow) → V1 limbs row → meets_v1 limbs row ≡ true
 unfolding V1 meets_v1
-met_limbs row e = eq-eqb row.value.number (joined_limbs row) e
+met_limbs limbs row e = eq-eqb row.value.number (joined_limbs limbs row) e
 
-met_where_accepted : (k : ℕ) (row : RangeRow) → verdict_on (asked_of_limbs k row) ≡ Accepted → V1 row
+met_where_accepted : (limbs k : ℕ) (row : RangeRow) → verdict_on (asked_of_limbs limbs k row) ≡ Accepted → V1 limbs row
 unfolding V1 meets_v1
-met_where_accepted k row e =
-    elim (cases_Bool (meets_v1 row)) [
-      | inl t ↦ eqb-true row.value.number (joined_limbs row) t
-      | inr f ↦ absurd (let h : Refused (V 1) k ≡ Accepted = sym (limbs_fail k row f) ∙ e in cc)
+met_where_accepted limbs k row e =
+    elim (cases_Bool (meets_v1 limbs row)) [
+      | inl t ↦ eqb-true row.value.number (joined_limbs limbs row) t
+      | inr f ↦ absurd (let h : Refused (V 1) k ≡ Accepted = sym (limbs_fail limbs k row f) ∙ e in cc)
     ]
 
-pub limbs_refused : (rows : List RangeRow) (i : ℕ) → position (λ r. not (meets_v1 r)) rows ≡ Some i → verdict_on (limb_conditions 0 rows) ≡ Refused (V 1) i
+pub limbs_refused : (limbs : ℕ) (rows : List RangeRow) (i : ℕ) → position (λ r. not (meets_v1 limbs r)) rows ≡ Some i → verdict_on (limb_conditions limbs 0 rows) ≡ Refused (V 1) i
 unfolding limb_conditions asked_of_limbs
-limbs_refused rows i e =
-    let fails : RangeRow → Bool = λ r. not (meets_v1 r) in
-    refused_at asked_of_limbs 0 i rows (Refused (V 1) i) (λ h. cc) (position_within fails rows i e)
-    (λ j d below. limbs_hold (0 + j) (get_or rows j d) (not-false (meets_v1 (get_or rows j d)) ((position-Some fails rows i d e).2 j below)))
-    (λ d. limbs_fail (0 + i) (get_or rows i d) (not-true (meets_v1 (get_or rows i d)) ((position-Some fails rows i d e).1)) ∙ ap (Refused (V 1)) (zero-add i))
+limbs_refused limbs rows i e =
+    let fails : RangeRow → Bool = λ r. not (meets_v1 limbs r) in
+    refused_at (asked_of_limbs limbs) 0 i rows (Refused (V 1) i) (λ h. cc) (position_within fails rows i e)
+    (λ j d below. limbs_hold limbs (0 + j) (get_or rows j d) (not-false (meets_v1 limbs (get_or rows j d)) ((position-Some fails rows i d e).2 j below)))
+    (λ d. limbs_fail limbs (0 + i) (get_or rows i d) (not-true (meets_v1 limbs (get_or rows i d)) ((position-Some fails rows i d e).1)) ∙ ap (Refused (V 1)) (zero-add i))
   where
     position_within : {X : Type 0} (p : X → Bool) (xs : List X) (i : ℕ) → position p xs ≡ Some i → i < length xs
     position_within p [] i e = absurd (cc)
     position_within p (x ∷ xs) i e = (position-Some p (x ∷ xs) i x e).0
 
-pub limbs_accepted : (rows : List RangeRow) → (verdict_on (limb_conditions 0 rows) ≡ Accepted) ↔ All V1 rows
+pub limbs_accepted : (limbs : ℕ) (rows : List RangeRow) → (verdict_on (limb_conditions limbs 0 rows) ≡ Accepted) ↔ All (V1 limbs) rows
 unfolding limb_conditions asked_of_limbs
-limbs_accepted rows = (
-  λ e j d lt. met_where_accepted (0 + j) (get_or rows j d) (each_accepted asked_of_limbs 0 rows e j d lt),
-  λ all. none_refused asked_of_limbs 0 rows (λ j d lt. limbs_hold (0 + j) (get_or rows j d) (met_limbs (get_or rows j d) (all j d lt))),
+limbs_accepted limbs rows = (
+  λ e j d lt. met_where_accepted limbs (0 + j) (get_or rows j d) (each_accepted (asked_of_limbs limbs) 0 rows e j d lt),
+  λ all. none_refused (asked_of_limbs limbs) 0 rows (λ j d lt. limbs_hold limbs (0 + j) (get_or rows j d) (met_limbs limbs (get_or rows j d) (all j d lt))),
 )
 
 -- ---- two lists that are to be one
@@ -213,13 +213,13 @@ by_groups program public tables =
 -- the verdict on the conditions of the run, by the first part that refuses
 module _ (program : Listing) (public : Statement) (tables : Contents) where
   run_verdict : verdict_on (run_conditions program public tables)
-      ≡ first_refused (first_refused (first_refused (verdict_on (start_conditions program public tables)) (verdict_on (row_conditions 0 (rows_with_next tables)))) (verdict_on (end_conditions program public tables))) (verdict_on (limb_conditions 0 tables.range))
+      ≡ first_refused (first_refused (first_refused (verdict_on (start_conditions program public tables)) (verdict_on (row_conditions 0 (rows_with_next tables)))) (verdict_on (end_conditions program public tables))) (verdict_on (limb_conditions limb_limit 0 tables.range))
   unfolding run_conditions
   run_verdict =
       let start : List Condition = start_conditions program public tables in
       let rows : List Condition = row_conditions 0 (rows_with_next tables) in
       let end : List Condition = end_conditions program public tables in
-      let limbs : List Condition = limb_conditions 0 tables.range in
+      let limbs : List Condition = limb_conditions limb_limit 0 tables.range in
       verdict_on-append (start ++ rows ++ end) limbs ∙ (rw (verdict_on-append (start ++ rows) end, verdict_on-append start rows) refl)
 
   pub run-at_start : (verdict_on (start_conditions program public tables) ≡ Accepted → ⊥) → verdict_on (run_conditions program public tables) ≡ verdict_on (start_conditions program public tables)
@@ -231,7 +231,7 @@ module _ (program : Listing) (public : Statement) (tables : Contents) where
   pub run-at_end : verdict_on (start_conditions program public tables) ≡ Accepted → verdict_on (row_conditions 0 (rows_with_next tables)) ≡ Accepted → (verdict_on (end_conditions program public tables) ≡ Accepted → ⊥) → verdict_on (run_conditions program public tables) ≡ verdict_on (end_conditions program public tables)
   run-at_end a b h = run_verdict ∙ (rw (a, b) (stays (verdict_on (end_conditions program public tables)) _ h))
 
-  pub run-at_limbs : verdict_on (start_conditions program public tables) ≡ Accepted → verdict_on (row_conditions 0 (rows_with_next tables)) ≡ Accepted → verdict_on (end_conditions program public tables) ≡ Accepted → verdict_on (run_conditions program public tables) ≡ verdict_on (limb_conditions 0 tables.range)
+  pub run-at_limbs : verdict_on (start_conditions program public tables) ≡ Accepted → verdict_on (row_conditions 0 (rows_with_next tables)) ≡ Accepted → verdict_on (end_conditions program public tables) ≡ Accepted → verdict_on (run_conditions program public tables) ≡ verdict_on (limb_conditions limb_limit 0 tables.range)
   run-at_limbs a b d = run_verdict ∙ (rw (a, b, d) refl)
 
   -- the verdict, by the first group that refuses

@@ -12,7 +12,7 @@ use Rattle.range_columns.specs.declared.RangeRow.{RangeRow}
 use Rattle.range_columns.specs.Equations.{IsWithin}
 use Rattle.program_file.specs.Listing.{Listing}
 use Rattle.public_input.specs.Statement.{Statement}
-use Rattle.range_columns.specs.Limbs.{range_bound}
+use Rattle.range_columns.specs.Limbs.{limb_limit, range_bound}
 use Rattle.table_file.specs.Tables.{Contents}
 use Rattle.constraint_checker.specs.Lists.{accesses, table_small_values}
 use Rattle.constraint_checker.specs.Constraints.{states, last_state}
@@ -48,6 +48,6 @@ pub record DescribeRun (program : Listing) (public : Statement) (tables : Conten
   pub small_values : All (IsWithin public.rc_min public.rc_max) (table_small_values tables)
   -- Each biased offset of a row is below 2^16.
   pub offsets : All HasSmallOffsets (map columns tables.rows)
-  -- Each range cell is below 2^48, and there are as many as the public input says.
-  pub range_cells : All (λ row. row.value.number < range_bound) tables.range
+  -- Each range cell is below 2^48, since it has three limbs, and there are as many as the public input says.
+  pub range_cells : All (λ row. row.value.number < range_bound limb_limit) tables.range
   pub range_count : length tables.range ≡ public.range_count

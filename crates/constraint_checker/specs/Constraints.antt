@@ -13,7 +13,7 @@ use Rattle.cpu_rows.specs.Table.{states_of, with_next}
 use Rattle.sorted_lists.specs.Climbing.{climb}
 use Rattle.memory_columns.specs.Equations.{m1, m2, pair_difference, M1, M2, M3}
 use Rattle.range_columns.specs.declared.RangeRow.{RangeRow}
-use Rattle.range_columns.specs.Limbs.{joined_limbs, V1}
+use Rattle.range_columns.specs.Limbs.{limb_limit, joined_limbs, V1}
 use Rattle.range_columns.specs.Equations.{is_number, first_number, last_number, range_difference, Q1, Q2, Q3, Q4}
 use Rattle.table_file.specs.Tables.{Contents}
 use Rattle.constraint_checker.specs.declared.Constraint.{Constraint}
@@ -88,9 +88,10 @@ end_conditions program public tables =
     ∷ condition (P 7) (length tables.rows) (last.ap == public.ap_last.number)
     ∷ []
 
--- V1 of each of these range rows, where the first of them is range row `start`. Own.
-unfoldable pub limb_conditions : ℕ → List RangeRow → List Condition
-limb_conditions start rows = at_each start rows (λ i row. condition (V 1) i (row.value.number == joined_limbs row) ∷ [])
+-- V1 of each of these range rows for cells of so many limbs, where the first of them is range row `start`. Own.
+unfoldable pub limb_conditions : (limbs start : ℕ) → List RangeRow → List Condition
+limb_conditions limbs start rows =
+    at_each start rows (λ i row. condition (V 1) i (row.value.number == joined_limbs limbs row) ∷ [])
 
 -- M1 and M2 of each sorted pair and the next, and M3 of all accesses and the sorted pairs. The whitepaper's constraints
 -- of the memory; M3 is own.
@@ -119,7 +120,7 @@ run_conditions program public tables =
     start_conditions program public tables
     ++ row_conditions 0 (rows_with_next tables)
     ++ end_conditions program public tables
-    ++ limb_conditions 0 tables.range
+    ++ limb_conditions limb_limit 0 tables.range
 
 -- All written constraints in their order. The whitepaper's constraints of the Cairo machine, of its memory and of its
 -- range checks; C32 to C39, V1, M3 and Q4 are own.
@@ -147,8 +148,8 @@ pub record MeetsAll (program : Listing) (public : Statement) (tables : Contents)
   -- P6 and P7: the last state lies at the program's end, with ap at the public last ap.
   pub p6 : (last_state tables).pc ≡ 1 + program.end
   pub p7 : (last_state tables).ap ≡ public.ap_last.number
-  -- V1, of each range row.
-  pub v1 : All V1 tables.range
+  -- V1, of each range row, for cells of three limbs.
+  pub v1 : All (V1 limb_limit) tables.range
   -- M1 to M3, of all accesses to the memory and the sorted pairs.
   pub m1 : M1 tables.pairs
   pub m2 : M2 tables.pairs

@@ -5,6 +5,7 @@ ghost use Rattle.casm_word.specs.Transition.{registers};
 ghost use Rattle.program_file.specs.Listing.{listing};
 ghost use Rattle.public_input.specs.Statement.{statement};
 ghost use Rattle.public_input.specs.Valid.{IsValid};
+ghost use Rattle.range_columns.specs.Limbs.{limb_limit};
 ghost use Rattle.table_file.specs.Tables.{contents, AreValid};
 ghost use Rattle.access_lists.specs.Accesses.{access_parts};
 ghost use Rattle.constraint_checker.specs.Lists.{accessing, accesses, table_small_values};
@@ -21,7 +22,7 @@ use cpu_rows::first_fault;
 use memory_columns::memory_fault;
 use program_file::Program;
 use public_input::Public;
-use range_columns::{limb_fault, range_fault};
+use range_columns::{LIMB_LIMIT, limb_fault, range_fault};
 use std::alloc::{AllocError, Global};
 use table_file::Tables;
 
@@ -134,12 +135,12 @@ fn verdict_on_end(program: &Program, public: &Public, tables: &Tables) -> Verdic
     }
 }
 
-/// V1 of each range row.
+/// V1 of each range row, for cells of three limbs.
 fn verdict_on_limbs(tables: &Tables) -> Verdict
-    ensures { result ≡ verdict_on (limb_conditions 0 (contents tables.now).range) }
+    ensures { result ≡ verdict_on (limb_conditions limb_limit 0 (contents tables.now).range) }
 {
     let rows = tables.range.as_slice();
-    match limb_fault(rows) {
+    match limb_fault(rows, LIMB_LIMIT) {
         Some(row) => refused(Constraint::V(1), row as u64),
         None => Verdict::Accepted,
     }

@@ -10,7 +10,7 @@ use Rattle.cpu_rows.specs.Steps.{IsRowOf}
 use Rattle.sorted_lists.specs.Order.{in_order}
 use Rattle.memory_columns.specs.Equations.{pair_cmp}
 use Rattle.memory_columns.specs.OneMemory.{Holds}
-use Rattle.range_columns.specs.Limbs.{IsSplitOf}
+use Rattle.range_columns.specs.Limbs.{limb_limit, IsSplitOf}
 use Rattle.range_columns.specs.Equations.{felt_cmp}
 use Rattle.program_file.specs.Listing.{Listing}
 use Rattle.public_input.specs.Statement.{Statement}
@@ -72,7 +72,7 @@ module _ (program : Listing) (public : Statement) (m : Memory) (states : List Re
             (rows_of_steps m (steps states) (columns_of m (steps states)) (run_told m states low small run));
         last = last_kept m states low small run;
         range_count = length-range_rows_of public m;
-        range = All-weaker IsCut (λ row. (row.value.number < 2 ^ 48) × IsSplitOf row.value.number row) (λ row is. (is.below, is.split)) tables.range (all_cut public m answers.range);
+        range = All-weaker IsCut (λ row. (row.value.number < 2 ^ 48) × IsSplitOf limb_limit row.value.number row) (λ row is. (is.below, is.split)) tables.range (all_cut public m answers.range);
         small_values = small_within (run_small_values public m states) public.rc_min public.rc_max answers.least answers.greatest;
         fillers = record {
           least = least_of (addresses accessed);

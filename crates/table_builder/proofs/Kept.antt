@@ -10,7 +10,7 @@ use Rattle.cpu_rows.specs.declared.Row.{Row}
 use Rattle.cpu_rows.specs.Columns.{columns}
 use Rattle.memory_columns.specs.Filling.{numbers_of}
 use Rattle.range_columns.specs.declared.RangeRow.{RangeRow}
-use Rattle.range_columns.specs.Limbs.{limb_at, IsSplitOf}
+use Rattle.range_columns.specs.Limbs.{limb_limit, limb_at, limb_or_first, IsSplitOf}
 use Rattle.goldilocks.specs.Cells.{cell}
 use Rattle.table_builder.specs.Rows.{as_state, as_row, limb_row}
 
@@ -73,8 +73,8 @@ state_kept s =
     λ i. record { pc = pc_same i; ap = ap_same i; fp = fp_same i }
 
 -- a number's row of limbs is the one that it is cut to
-pub limbs_kept : (number : ℕ) (r : RangeRow) → IsSplitOf number r → r ≡ limb_row number
-unfolding limb_row
+pub limbs_kept : (number : ℕ) (r : RangeRow) → IsSplitOf limb_limit number r → r ≡ limb_row number
+unfolding limb_row limb_or_first
 limbs_kept number r split =
     let value_same = felt_is r.value number split.value in
     let l0_same = felt_is r.l0 (limb_at 0 number) split.l0 in

@@ -16,7 +16,7 @@ use Rattle.memory_columns.specs.Equations.{pair_cmp, M1, M2, M3}
 use Rattle.memory_columns.proofs.OneMemory.{no_fault_exactly as memory_met}
 use Rattle.range_columns.specs.Equations.{felt_cmp, Q1, Q2, Q3, Q4}
 use Rattle.range_columns.specs.Filling.{absent_values}
-use Rattle.range_columns.specs.Limbs.{V1}
+use Rattle.range_columns.specs.Limbs.{limb_limit, V1}
 use Rattle.range_columns.proofs.FirstFault.{no_fault_exactly as range_met}
 use Rattle.program_file.specs.Listing.{Listing, IsProgram}
 use Rattle.public_input.specs.Statement.{Statement}
@@ -132,7 +132,7 @@ module _ (program : Listing) (public : Statement) (m : Memory) (states : List Re
           rows = run_meets m states low small legal;
           p6 = ap (λ s. s.pc) made_last ∙ sym ends.pc_last;
           p7 = ap (λ s. s.ap) made_last ∙ sym ends.ap_last;
-          v1 = All-weaker IsCut V1 (λ r is. is.meets) tables.range (all_cut public m answers.range);
+          v1 = All-weaker IsCut (V1 limb_limit) (λ r is. is.meets) tables.range (all_cut public m answers.range);
           m1 = memory.0;
           m2 = memory.1;
           m3 = memory.2;

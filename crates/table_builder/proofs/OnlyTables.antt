@@ -24,7 +24,7 @@ use Rattle.memory_columns.specs.OneMemory.{Holds}
 use Rattle.memory_columns.specs.Filling.{unaccessed, filler_at, AreFillers, filler_limit}
 use Rattle.memory_columns.proofs.Fillings.{map-map}
 use Rattle.range_columns.specs.declared.RangeRow.{RangeRow}
-use Rattle.range_columns.specs.Limbs.{IsSplitOf}
+use Rattle.range_columns.specs.Limbs.{limb_limit, IsSplitOf}
 use Rattle.range_columns.specs.Equations.{felt_cmp, IsWithin}
 use Rattle.range_columns.specs.Filling.{absent_values}
 use Rattle.table_file.specs.Tables.{Contents}
@@ -62,7 +62,7 @@ module _ (m : Memory) (public : Statement) where
   ranged i = limb_row (unwrap_or (m (range_address public i)) 0)
 
   -- those from number k on
-  only_range : (k : ℕ) (rows : List RangeRow) → All (Has m) (cells_from (public.range_begin.number + k) (map (λ r. r.value) rows)) → AllByRecursion (λ row. (row.value.number < 2 ^ 48) × IsSplitOf row.value.number row) rows →
+  only_range : (k : ℕ) (rows : List RangeRow) → All (Has m) (cells_from (public.range_begin.number + k) (map (λ r. r.value) rows)) → AllByRecursion (λ row. (row.value.number < 2 ^ 48) × IsSplitOf limb_limit row.value.number row) rows →
       (rows ≡ map ranged (range_with_len k (length rows))) × All (HasRange public m) (range_with_len k (length rows))
   unfolding cells_from field_add
   only_range k [] has split = (refl, λ i d within. absurd (omega arith))
@@ -78,13 +78,13 @@ module _ (m : Memory) (public : Statement) where
         All-cons (HasRange public m) k (range_with_len (k + 1) (length rows)) (r.value.number, here, split.0.0) behind.1,
       )
 
-  pub only_range_rows : (tables : Contents) → length tables.range ≡ public.range_count → All (Has m) (range_cells public.range_begin.number tables.range) → All (λ row. (row.value.number < 2 ^ 48) × IsSplitOf row.value.number row) tables.range →
+  pub only_range_rows : (tables : Contents) → length tables.range ≡ public.range_count → All (Has m) (range_cells public.range_begin.number tables.range) → All (λ row. (row.value.number < 2 ^ 48) × IsSplitOf limb_limit row.value.number row) tables.range →
       (tables.range ≡ range_rows_of public m) × All (HasRange public m) (range_with_len 0 public.range_count)
   unfolding range_cells range_rows_of
   only_range_rows tables count has split =
       let values : List Felt = map (λ r. r.value) tables.range in
       let begin : public.range_begin.number ≡ public.range_begin.number + 0 = omega arith in
-      let both = only_range 0 tables.range (subst (λ a. All (Has m) (cells_from a values)) begin has) (recursion_from_All (λ row. (row.value.number < 2 ^ 48) × IsSplitOf row.value.number row) tables.range split) in
+      let both = only_range 0 tables.range (subst (λ a. All (Has m) (cells_from a values)) begin has) (recursion_from_All (λ row. (row.value.number < 2 ^ 48) × IsSplitOf limb_limit row.value.number row) tables.range split) in
       (both.0 ∙ ap (λ n. map ranged (range_with_len 0 n)) count, subst (λ n. All (HasRange public m) (range_with_len 0 n)) count both.1)
 
 -- ---- the fillers

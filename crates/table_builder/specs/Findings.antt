@@ -11,7 +11,7 @@ use Rattle.memory_columns.specs.Filling.{filler_limit}
 use Rattle.program_file.specs.Listing.{Listing}
 use Rattle.public_input.specs.Statement.{Statement}
 use Rattle.goldilocks.specs.Cells.{addresses}
-use Rattle.range_columns.specs.Limbs.{range_bound}
+use Rattle.range_columns.specs.Limbs.{limb_limit, range_bound}
 use Rattle.access_lists.specs.Accesses.{program_cells}
 use Rattle.table_builder.specs.declared.faults.Field.{Field}
 use Rattle.table_builder.specs.declared.faults.Field.TheVariants.{Steps, PcFirst, ApFirst, FpFirst, PcLast, ApLast, Cell, RcMin, RcMax}
@@ -87,7 +87,7 @@ cell_findings program public m = map (λ x. cell_finding x (m x.addr.number)) (p
 -- Range cell i, at this address, has to be there and below 2^48: what the memory has there is the third argument. Own.
 abbrev pub range_finding : ℕ → ℕ → Option ℕ → Option Finding
 range_finding i address None = Some (NoCell address)
-range_finding i address (Some number) = if nat_lt number range_bound then None else Some (RangeWidth i)
+range_finding i address (Some number) = if nat_lt number (range_bound limb_limit) then None else Some (RangeWidth i)
 
 -- Each range cell has to be there, and below 2^48. The whitepaper's builtin for range checks.
 unfoldable pub range_findings : Statement → Memory → List (Option Finding)

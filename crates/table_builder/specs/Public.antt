@@ -8,7 +8,7 @@ use Rattle.goldilocks.specs.Cells.{memory_of}
 use Rattle.casm_word.specs.Transition.{Memory}
 use Rattle.casm_word.specs.Run.{LegalRun}
 use Rattle.memory_columns.specs.OneMemory.{Holds}
-use Rattle.range_columns.specs.Limbs.{range_bound}
+use Rattle.range_columns.specs.Limbs.{limb_limit, range_bound}
 use Rattle.program_file.specs.Listing.{Listing}
 use Rattle.public_input.specs.Statement.{Statement}
 use Rattle.public_input.specs.Limits.{public_cell_limit, range_cell_limit}
@@ -50,7 +50,7 @@ public_of run = stated_with (least_of (small_numbers run)) (greatest_of (small_n
 
 -- The memory has range cell i of the run, and its number is below 2^48. Own.
 abbrev pub HasRangeCell : RelocatedRun → ℕ → Type 0
-HasRangeCell run i = (number : ℕ) × (memory_in run (field_add run.range_begin i) ≡ Some number) × (number < range_bound)
+HasRangeCell run i = (number : ℕ) × (memory_in run (field_add run.range_begin i) ≡ Some number) × (number < range_bound limb_limit)
 
 -- The run has a public input that is valid: it is legal, its length and its cells keep the limits, and the memory has
 -- each shown cell and each range cell. Own.

@@ -10,7 +10,7 @@ use Rattle.sorted_lists.specs.Order.{in_order}
 use Rattle.memory_columns.specs.Equations.{pair_cmp}
 use Rattle.memory_columns.specs.OneMemory.{Holds}
 use Rattle.memory_columns.specs.Filling.{AreFillers, filler_limit}
-use Rattle.range_columns.specs.Limbs.{IsSplitOf, range_bound}
+use Rattle.range_columns.specs.Limbs.{limb_limit, IsSplitOf, range_bound}
 use Rattle.range_columns.specs.Equations.{felt_cmp, IsWithin}
 use Rattle.range_columns.specs.Filling.{absent_values}
 use Rattle.program_file.specs.Listing.{Listing}
@@ -58,7 +58,7 @@ pub record AreTablesOf (program : Listing) (public : Statement) (m : Memory) (st
   -- There are as many range rows as the public input says.
   pub range_count : length tables.range ≡ public.range_count
   -- Each range row has a number below 2^48 and its three limbs.
-  pub range : All (λ row. (row.value.number < range_bound) × IsSplitOf row.value.number row) tables.range
+  pub range : All (λ row. (row.value.number < range_bound limb_limit) × IsSplitOf limb_limit row.value.number row) tables.range
   -- Every offset and limb lies from `rc_min` to `rc_max`.
   pub small_values : All (IsWithin public.rc_min public.rc_max) (row_small_values tables.rows tables.range)
   -- The fillers are the cells between the accesses, and no more than there may be.

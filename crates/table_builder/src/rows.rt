@@ -15,7 +15,7 @@ use casm_word::{Reads, State, first_refused};
 use cpu_rows::{Row, build_row};
 use goldilocks::Felt;
 use public_input::Public;
-use range_columns::{RangeRow, split};
+use range_columns::{LIMB_LIMIT, RangeRow, split};
 use std::alloc::Global;
 
 /// The rows of the steps, each of which has to be the transition.
@@ -80,7 +80,7 @@ fn range_row<M: Reads>(i: u32, addr: Felt, m: &M) -> Result<RangeRow, BuildFault
     let Some(value) = m.read(addr) else {
         return Err(BuildFault::NoCell(addr));
     };
-    match split(value) {
+    match split(value, LIMB_LIMIT) {
         Some(row) => Ok(row),
         None => Err(BuildFault::RangeWidth(i)),
     }
