@@ -206,6 +206,18 @@ module _ (m : Memory) (accesses fill : List Pair) (least greatest : ℕ) (filler
         let order : list_difference is_same_pair (in_order pair_cmp all) (in_order pair_cmp sorted) ≡ None = (difference-none is_same_pair same_pair_tells (in_order pair_cmp all) (in_order pair_cmp sorted)).1 (sym ordered ∙ sym kept) in
         rw (neighbours, order) refl
 
+-- where nothing is to be filled
+pub made_none : (h : ℕ → ℕ × ℕ) (ns : List ℕ) → length ns ≡ 0 → ◌≡◌ {A = List (ℕ × ℕ)} [] (map h ns)
+made_none h [] e = refl
+made_none h (n ∷ ns) e = absurd (omega arith)
+
+append_none : (xs : List Pair) → xs ≡ xs ++ []
+append_none [] = refl
+append_none (x ∷ xs) = ap (λ ys. x ∷ ys) (append_none xs)
+
+pub in_order_alone : (xs : List Pair) → IsSorted pair_cmp xs → xs ≡ in_order pair_cmp (xs ++ [])
+in_order_alone xs up = sym (in_order_kept pair_cmp pair_total pair_equal xs up) ∙ ap (in_order pair_cmp) (append_none xs)
+
 -- accesses that were put in order
 pub record Ordered (accesses ordered : List Pair) (first last : Pair) : Type 0 where
   pub moved : IsPermutation accesses ordered

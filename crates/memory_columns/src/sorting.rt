@@ -40,8 +40,13 @@ pub fn sort_columns<M: Reads>(
     let sorted = put_in_order(alloc, accesses);
     let least = sorted[0].addr;
     let greatest = sorted[sorted.len() - 1].addr;
-    if gap_count(&sorted, least, greatest) > FILLER_LIMIT {
+    let count = gap_count(&sorted, least, greatest);
+    if count > FILLER_LIMIT {
         return Err(SortFault::TooWide { least, greatest });
+    }
+    if count == 0 {
+        let fill = Vec::new(alloc);
+        return Ok(MemoryColumns { fill, sorted });
     }
     Ok(filled(alloc, sorted, least, greatest, m)?)
 }
