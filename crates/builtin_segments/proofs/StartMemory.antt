@@ -1,5 +1,5 @@
 -- The memory in which a run starts: how it is filled, what it holds, and that it is a memory.
-use Rattle.std.proofs.Common.{◌≡◌, ◌≢◌, ℕ, zero, suc, ◌+◌, ◌-◌, ◌^◌, ◌<◌, ◌≤◌, max, ◌&&◌, true, List, [], ◌∷◌, ◌++◌, length, get_or, Option, Some, None, refl, sym, ◌∙◌, ap, subst, arith, length-append}
+use Rattle.std.proofs.Common.{◌≡◌, ◌≢◌, ℕ, zero, suc, ◌+◌, ◌-◌, ◌<◌, ◌≤◌, max, ◌&&◌, true, List, [], ◌∷◌, ◌++◌, length, get_or, Option, Some, None, refl, sym, ◌∙◌, ap, subst, arith, length-append}
 use Rattle.std.specs.Prelude.{sum, slice_get, option_map, IsSome}
 use Rattle.std.proofs.lemmas.Bool.Decides.{nat_tests}
 use Rattle.std.proofs.lemmas.List.{length-set}
@@ -18,7 +18,7 @@ use Rattle.program_file.specs.Listing.{Listing, IsProgram}
 use Rattle.hint_cells.specs.Limits.{extra_limit}
 use Rattle.builtin_segments.specs.Layout.{execution, builtin_count, builtin_segments}
 use Rattle.builtin_segments.specs.Start.{start_stack, with_segments, with_stack, start_memory, first_state}
-use Rattle.builtin_segments.specs.Filling.{IsFilled, IsNamed, base_pointers}
+use Rattle.builtin_segments.specs.Filling.{IsFilled, IsNamed, base_pointers, stack_limit}
 
 -- ---- one cell of the execution segment
 
@@ -36,11 +36,11 @@ are_there m p (Num x) there named = grind (arith, nat_tests)
 are_there m p (Ptr q) there named = let below : q.seg < length m.sizes = named.0 in grind (arith, nat_tests)
 
 -- nothing is against the next cell of the execution segment
-pub may_push : (m : RunMemory) (off : ℕ) (v : Value) → IsFilled m off → off < 2 ^ 18 → IsNamed (length m.sizes) v → put_cause m (place execution off) v ≡ None
+pub may_push : (m : RunMemory) (off : ℕ) (v : Value) → IsFilled m off → off < stack_limit → IsNamed (length m.sizes) v → put_cause m (place execution off) v ≡ None
 may_push m off v is low named =
     cause_none m (place execution off) v is.memory (are_there m (place execution off) v is.there named) is.there (λ e. cc) (omega (arith, is.filled)) (omega (arith, is.filled, is.few))
 
-pub pushed : (m : RunMemory) (off : ℕ) (v : Value) → IsFilled m off → off < 2 ^ 18 → IsNamed (length m.sizes) v → IsFilled (with_cell m (place execution off) v) (off + 1)
+pub pushed : (m : RunMemory) (off : ℕ) (v : Value) → IsFilled m off → off < stack_limit → IsNamed (length m.sizes) v → IsFilled (with_cell m (place execution off) v) (off + 1)
 pushed m off v is low named = record {
   memory = IsMemory-with_cell m (place execution off) v is.memory (has_offset (length m.sizes) v named) (may_push m off v is low named);
   there = omega (arith, is.there, count-with_cell m (place execution off) v);
@@ -206,7 +206,7 @@ one_after n v values off first rest (suc i) =
     let same : off + suc i ≡ off + 1 + i = omega arith in
     ap (λ (k : ℕ). cell n (place execution k)) same ∙ rest i
 
-pub with_stack-stacked : (values : List Value) (off : ℕ) (m : RunMemory) → IsFilled m off → off + length values ≤ 2 ^ 18 → AreNamed (length m.sizes) values → HasStacked m (with_stack off values m) off values
+pub with_stack-stacked : (values : List Value) (off : ℕ) (m : RunMemory) → IsFilled m off → off + length values ≤ stack_limit → AreNamed (length m.sizes) values → HasStacked m (with_stack off values m) off values
 unfolding with_stack
 with_stack-stacked [] off m is low named =
     let same : off ≡ off + 0 = omega arith in

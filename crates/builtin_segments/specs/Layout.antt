@@ -9,6 +9,10 @@ use Rattle.builtin_segments.specs.declared.layout.Stops.{Stops}
 abbrev pub execution : ℕ
 execution = 1
 
+-- The offset in the execution segment at which ap and fp begin: before it lie the two cells that a call leaves. Own.
+abbrev pub frame_offset : ℕ
+frame_offset = 2
+
 -- The segment of the first builtin; the program and the execution segment come before it. Own.
 abbrev pub first_builtin : ℕ
 first_builtin = 2

@@ -7,12 +7,12 @@ use Rattle.segments.specs.Values.{place, number}
 use Rattle.segments.specs.Memory.{RunMemory, program_memory, with_segment, with_cell}
 use Rattle.program_file.specs.declared.Builtins.{Builtins}
 use Rattle.program_file.specs.Listing.{Listing}
-use Rattle.builtin_segments.specs.Layout.{execution, builtin_count, builtin_segments}
+use Rattle.builtin_segments.specs.Layout.{execution, frame_offset, builtin_count, builtin_segments}
 
 -- What the execution segment holds at first: the pointer to its own third cell, the number 0, and a pointer to the first
 -- cell of each builtin's segment. Own.
 unfoldable pub start_stack : Builtins → List Value
-start_stack b = Ptr (place execution 2) ∷ number 0 ∷ map (λ seg. Ptr (place seg 0)) (builtin_segments b)
+start_stack b = Ptr (place execution frame_offset) ∷ number 0 ∷ map (λ seg. Ptr (place seg 0)) (builtin_segments b)
 
 -- The memory with so many more segments, which are empty. Own.
 unfoldable pub with_segments : ℕ → RunMemory → RunMemory
@@ -33,4 +33,4 @@ start_memory p extra =
 -- The state in which the program starts: pc at its first instruction, and ap and fp at the third cell of the execution
 -- segment. Own.
 unfoldable pub first_state : Listing → RelState
-first_state p = record { pc = place 0 p.start; ap = place execution 2; fp = place execution 2 }
+first_state p = record { pc = place 0 p.start; ap = place execution frame_offset; fp = place execution frame_offset }

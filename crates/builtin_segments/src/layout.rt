@@ -8,6 +8,9 @@ use program_file::Builtins;
 /// The execution segment: in it the start stack lies, and ap and fp begin.
 pub const EXECUTION: u32 = 1;
 
+/// The offset in the execution segment at which ap and fp begin, after the two cells that a call leaves.
+pub const FRAME_OFFSET: u32 = 2;
+
 /// The segment of the first builtin.
 pub const FIRST_BUILTIN: u32 = 2;
 

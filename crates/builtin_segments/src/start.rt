@@ -1,15 +1,15 @@
 //! The memory in which a run starts, and its first state.
 
-ghost use Rattle.std.specs.Prelude.{◌≡◌, ◌+◌, ◌<◌, ◌≤◌, ◌^◌, length, IfOk, OnOk};
+ghost use Rattle.std.specs.Prelude.{◌≡◌, ◌+◌, ◌<◌, ◌≤◌, length, IfOk, OnOk};
 ghost use Rattle.segments.specs.Memory.{IsMemory, segment_limit, with_cell};
 ghost use Rattle.segments.specs.Values.{place};
 ghost use Rattle.program_file.specs.Listing.{listing};
 ghost use Rattle.hint_cells.specs.Limits.{extra_limit};
-ghost use Rattle.builtin_segments.specs.Layout.{execution, builtin_count};
+ghost use Rattle.builtin_segments.specs.Layout.{execution, first_builtin, builtin_count};
 ghost use Rattle.builtin_segments.specs.Start.{start_stack, with_segments, with_stack, start_memory, first_state};
-ghost use Rattle.builtin_segments.specs.Filling.{IsFilled, IsNamed};
+ghost use Rattle.builtin_segments.specs.Filling.{IsFilled, IsNamed, stack_limit};
 
-use crate::layout::{EXECUTION, FIRST_BUILTIN, builtin_count};
+use crate::layout::{EXECUTION, FIRST_BUILTIN, FRAME_OFFSET, builtin_count};
 use goldilocks::Felt;
 use program_file::{Builtins, Program, bound_laws};
 use segments::{Place, PutFault, RelState, Segments, Value};
@@ -38,7 +38,7 @@ pub fn first_state(program: &Program) -> RelState
 {
     let frame = Place {
         seg: EXECUTION,
-        off: 2,
+        off: FRAME_OFFSET,
     };
     RelState {
         pc: Place {
@@ -64,12 +64,12 @@ fn add_segments(alloc: Global, memory: &mut Segments, more: u32) -> Result<(), A
 /// Writes the start stack into the execution segment, which is empty.
 fn fill_stack(alloc: Global, memory: &mut Segments, builtins: Builtins) -> Result<(), AllocError>
     requires filled { IsFilled memory.old 0 }
-    requires there { 2 + builtin_count builtins ≤ length memory.old.sizes }
+    requires there { first_builtin + builtin_count builtins ≤ length memory.old.sizes }
     ensures { OnOk result (memory.new ≡ with_stack 0 (start_stack builtins) memory.old) }
 {
     let frame = Place {
         seg: EXECUTION,
-        off: 2,
+        off: FRAME_OFFSET,
     };
     push(alloc, memory, 0, Value::Ptr(frame))?;
     push(alloc, memory, 1, Value::Num(Felt::ZERO))?;
@@ -78,15 +78,15 @@ fn fill_stack(alloc: Global, memory: &mut Segments, builtins: Builtins) -> Resul
             seg: FIRST_BUILTIN + index,
             off: 0,
         };
-        push(alloc, memory, 2 + index, Value::Ptr(first))?;
+        push(alloc, memory, FRAME_OFFSET + index, Value::Ptr(first))?;
     }
     Ok(())
 }
 
-/// Writes a value into the execution segment, behind the cells that are held.
+/// Writes a value into the execution segment, after the cells that are held.
 fn push(alloc: Global, memory: &mut Segments, off: u32, value: Value) -> Result<(), AllocError>
     requires filled { IsFilled memory.old off }
-    requires low { off < 2 ^ 18 }
+    requires low { off < stack_limit }
     requires named { IsNamed (length memory.old.sizes) value }
     ensures placed { OnOk result (memory.new ≡ with_cell memory.old (place execution off) value) }
     ensures filled { OnOk result (IsFilled memory.new (off + 1)) }
