@@ -1,4 +1,5 @@
 pub mod Layout
+pub mod Used
 pub mod Start
 pub mod Filling
 pub mod Rules

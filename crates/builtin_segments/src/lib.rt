@@ -10,4 +10,4 @@ mod start;
 pub use cells::{CellCause, CellFault, place_cell};
 pub use laws::{adding_laws, start_laws};
 pub use layout::{EXECUTION, Layout, Stops};
-pub use start::{first_state, start_segments};
+pub use start::{first_state, start_segments, start_stack_length};

@@ -50,6 +50,13 @@ pub fn first_state(program: &Program) -> RelState
     }
 }
 
+/// How many cells the start stack of a program with these builtins has, from 2 to 4.
+pub fn start_stack_length(builtins: Builtins) -> u32
+    ensures { result ≡ length (start_stack builtins) }
+{
+    2 + builtin_count(builtins)
+}
+
 /// Adds so many empty segments.
 fn add_segments(alloc: Global, memory: &mut Segments, more: u32) -> Result<(), AllocError>
     requires { length memory.old.sizes + more ≤ segment_limit }

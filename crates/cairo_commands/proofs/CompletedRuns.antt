@@ -1,8 +1,8 @@
 -- What is written of a run that came to its end: it is a run of the program, its files spell it, and its tables meet every
 -- constraint.
-use Rattle.std.proofs.Common.{◌≡◌, ℕ, zero, suc, ◌-◌, ◌<◌, ◌≤◌, List, [], ◌∷◌, length, map, Some, option_map, Result, Ok, Err, IfSome, refl, sym, ap, ◌∙◌, subst, arith}
-use Rattle.std.specs.Prelude.{All, sum, IsSome, slice_get, slice_index_or}
-use Rattle.std.specs.List.{range_with_len}
+use Rattle.std.proofs.Common.{◌≡◌, ℕ, zero, suc, ◌+◌, ◌-◌, ◌<◌, ◌≤◌, Bool, true, false, List, [], ◌∷◌, length, map, Option, Some, None, option_map, Result, Ok, Err, IfSome, refl, sym, ap, ◌∙◌, subst, arith, zero-add}
+use Rattle.std.specs.Prelude.{All, sum, IsSome, slice_get, slice_index_or, if◌then◌else◌}
+use Rattle.std.specs.List.{AllByRecursion, range_with_len}
 use Rattle.std.proofs.lemmas.List.{length-map}
 use Rattle.std.proofs.lemmas.List.Elements.{All-from_recursion, recursion_from_All, All-weaker}
 use Rattle.goldilocks.specs.Field.{prime}
@@ -16,25 +16,27 @@ use Rattle.segments.specs.declared.Place.{Place}
 use Rattle.segments.specs.declared.RelState.{RelState}
 use Rattle.segments.specs.declared.Value.{Value}
 use Rattle.segments.specs.declared.Value.TheVariants.{Num, Ptr}
-use Rattle.segments.specs.Values.{place, number}
-use Rattle.segments.specs.Memory.{cell}
+use Rattle.segments.specs.Values.{place}
+use Rattle.segments.specs.Memory.{RunMemory, cell}
 use Rattle.segments.specs.Relocation.{base, address, relocated}
+use Rattle.program_file.specs.declared.Builtins.{Builtins}
 use Rattle.program_file.specs.Listing.{Listing, IsProgram}
 use Rattle.hint_cells.specs.declared.HintCell.{HintCell}
 use Rattle.hint_cells.specs.HintList.{HintList, AreHints}
-use Rattle.builtin_segments.specs.Layout.{execution}
+use Rattle.builtin_segments.specs.Layout.{execution, first_builtin, builtin_count, layout_of, no_stops}
+use Rattle.builtin_segments.specs.Used.{IsUsed, AreUsed}
 use Rattle.builtin_segments.specs.Start.{start_stack, start_memory, first_state}
 use Rattle.builtin_segments.specs.Rules.{rules_of}
-use Rattle.builtin_segments.proofs.StartMemory.{start-count, start-words, start-stack}
+use Rattle.builtin_segments.proofs.StartMemory.{few_builtins, start-count, start-words, start-stack}
 use Rattle.run_steps.specs.ValueRun.{registers_at, HoldsRelocated, InSegments}
 use Rattle.run_steps.proofs.Relocated.{run_at}
 use Rattle.vm_runner.specs.Run.{Ran, run_of}
 use Rattle.vm_runner.specs.Completes.{last_pc, Completes}
 use Rattle.vm_runner.proofs.Completing.{completes as completes_run}
-use Rattle.relocation.specs.Relocated.{RelocatedRun, relocated_cells, relocated_run, shown_places, field_run}
+use Rattle.relocation.specs.Relocated.{RelocatedRun, relocated_cells, relocated_run, shown_places, LeavesCells, field_run}
 use Rattle.relocation.specs.declared.run.FieldRun.{FieldRun}
 use Rattle.relocation.proofs.CellMemory.{holds_relocated, address_low, in_bounds, can_be_listed, has_words}
-use Rattle.relocation.proofs.RunLaws.{shown_ascend, shown_held, run_in_field}
+use Rattle.relocation.proofs.RunLaws.{shown_ascend, shown-count, shown_held, run_in_field}
 use Rattle.memory_columns.specs.OneMemory.{Holds}
 use Rattle.access_lists.specs.Accesses.{program_cells}
 use Rattle.trace_files.specs.TraceFile.{IsState, state_limit, trace_limit, trace_bytes, SpellsTrace}
@@ -69,17 +71,17 @@ use Rattle.cairo_commands.proofs.PublicSizes.{public_fits}
 
 -- what is written of a run
 pub record WrittenRun (p : Listing) (h : HintList) (ran : Ran) : Type 0 where
-  pub of_run : AreTablesOf p (public_of (laid_out ran)) (memory_of (laid_out ran).cells) (laid_out ran).states (run_tables p (laid_out ran))
-  pub given : HoldsGiven p h ran.memory.sizes (memory_of (laid_out ran).cells)
-  pub trace : SpellsTrace (trace_bytes (laid_out ran).states) (laid_out ran).states
-  pub trace_short : length (trace_bytes (laid_out ran).states) ≤ trace_limit
-  pub memory : SpellsMemory (memory_bytes (laid_out ran).cells) (laid_out ran).cells
-  pub memory_short : length (memory_bytes (laid_out ran).cells) ≤ memory_limit
-  pub public : SpellsPublic (public_bytes (public_of (laid_out ran))) (public_of (laid_out ran))
-  pub public_short : length (public_bytes (public_of (laid_out ran))) ≤ public_limit
-  pub tables : SpellsTables (spelling (run_tables p (laid_out ran))) (run_tables p (laid_out ran))
-  pub tables_short : length (spelling (run_tables p (laid_out ran))) ≤ tables_limit
-  pub meets : MeetsAll p (public_of (laid_out ran)) (run_tables p (laid_out ran))
+  pub of_run : AreTablesOf p (public_of (laid_out p ran)) (memory_of (laid_out p ran).cells) (laid_out p ran).states (run_tables p (laid_out p ran))
+  pub given : HoldsGiven p h ran.memory.sizes (memory_of (laid_out p ran).cells)
+  pub trace : SpellsTrace (trace_bytes (laid_out p ran).states) (laid_out p ran).states
+  pub trace_short : length (trace_bytes (laid_out p ran).states) ≤ trace_limit
+  pub memory : SpellsMemory (memory_bytes (laid_out p ran).cells) (laid_out p ran).cells
+  pub memory_short : length (memory_bytes (laid_out p ran).cells) ≤ memory_limit
+  pub public : SpellsPublic (public_bytes (public_of (laid_out p ran))) (public_of (laid_out p ran))
+  pub public_short : length (public_bytes (public_of (laid_out p ran))) ≤ public_limit
+  pub tables : SpellsTables (spelling (run_tables p (laid_out p ran))) (run_tables p (laid_out p ran))
+  pub tables_short : length (spelling (run_tables p (laid_out p ran))) ≤ tables_limit
+  pub meets : MeetsAll p (public_of (laid_out p ran)) (run_tables p (laid_out p ran))
 
 -- ---- lists of states
 
@@ -107,6 +109,16 @@ last_at f states p last =
     let at = state_at f states (length states - 1) p last in
     (at.0, at.1, ap (λ n. slice_index_or (map f states) (n - 1) no_state) (length-map states f) ∙ at.2)
 
+-- ---- the start stack
+
+-- the cells of the execution segment are held that have these values, from a first one on
+all_held : (m : RunMemory) (first : ℕ) (values : List Value) → ((off : ℕ) (v : Value) → slice_get values off ≡ Some v → cell m (place execution (first + off)) ≡ Some v) → AllByRecursion (λ q. IsSome (cell m q)) (map (place execution) (range_with_len first (length values)))
+all_held m first [] held = tt
+all_held m first (v ∷ values) held = (
+  subst (λ (k : ℕ). IsSome (cell m (place execution k))) (omega arith) (subst IsSome (sym (held 0 v refl)) refl),
+  all_held m (first + 1) values (λ off w at. subst (λ (k : ℕ). cell m (place execution k) ≡ Some w) (omega arith) (held (suc off) w at)),
+)
+
 -- ---- a run that came to its end
 
 module _ (p : Listing) (h : HintList) (is_program : IsProgram p) (are_hints : AreHints h) (ran : Ran) (completes : Completes p h ran) where
@@ -114,7 +126,7 @@ module _ (p : Listing) (h : HintList) (is_program : IsProgram p) (are_hints : Ar
   sizes = ran.memory.sizes
 
   abbrev run : RelocatedRun
-  run = laid_out ran
+  run = laid_out p ran
 
   abbrev m : Memory
   m = memory_of run.cells
@@ -127,18 +139,19 @@ module _ (p : Listing) (h : HintList) (is_program : IsProgram p) (are_hints : Ar
   unfolding relocated_run
   legal = run_at ran.memory m ran.states completes.memory held completes.run
 
-  -- what the start memory holds
-  from_start : (at : Place) (v : Value) → cell (start_memory p h.extra) at ≡ Some v → m (address sizes at) ≡ Some (relocated sizes v)
-  from_start at v is = held.holds at v (completes.started.cells at v is)
+  -- the start stack is still there
+  stack_cell : (off : ℕ) (v : Value) → slice_get (start_stack p.builtins) off ≡ Some v → cell ran.memory (place execution off) ≡ Some v
+  stack_cell off v at = completes.started.cells (place execution off) v (start-stack p h.extra off is_program are_hints.few_extra ∙ at)
 
-  -- the two cells of the start stack that every program has
   first_cell : cell ran.memory (place execution 0) ≡ Some (Ptr (place execution 2))
   unfolding start_stack
-  first_cell = completes.started.cells (place execution 0) (Ptr (place execution 2)) (start-stack p h.extra 0 is_program are_hints.few_extra)
+  first_cell = stack_cell 0 (Ptr (place execution 2)) refl
 
-  second_cell : cell ran.memory (place execution 1) ≡ Some (number 0)
-  unfolding start_stack
-  second_cell = completes.started.cells (place execution 1) (number 0) (start-stack p h.extra 1 is_program are_hints.few_extra)
+  stack_is_held : All (λ q. IsSome (cell ran.memory q)) (shown_places p.builtins)
+  unfolding shown_places
+  stack_is_held =
+      All-from_recursion (λ q. IsSome (cell ran.memory q)) (map (place execution) (range_with_len 0 (length (start_stack p.builtins))))
+      (all_held ran.memory 0 (start_stack p.builtins) (λ off v at. subst (λ (k : ℕ). cell ran.memory (place execution k) ≡ Some v) (sym (zero-add off)) (stack_cell off v at)))
 
   first_fits : IsState (registers_at sizes (first_state p))
   unfolding first_state registers_at address base
@@ -176,9 +189,9 @@ module _ (p : Listing) (h : HintList) (is_program : IsProgram p) (are_hints : Ar
         first_fp = ap (λ (r : Registers). r.fp) first ∙ sym (ap (λ (r : Registers). r.ap) first);
         last_pc = ap (λ (r : Registers). r.pc) last.2 ∙ ap (address sizes) last.1;
         has_program = has_program;
-        few_shown = omega arith;
-        ascending = shown_ascend ran.memory ran.states;
-        shown_held = shown_held ran.memory ran.states completes.memory (All-from_recursion (λ q. IsSome (cell ran.memory q)) shown_places (subst IsSome (sym first_cell) refl, (subst IsSome (sym second_cell) refl, tt)));
+        few_shown = omega (arith, shown-count p.builtins ran.stops ran.memory ran.states, few_builtins p.builtins);
+        ascending = shown_ascend p.builtins ran.stops ran.memory ran.states;
+        shown_held = shown_held p.builtins ran.stops ran.memory ran.states completes.memory stack_is_held;
         few_range_cells = omega arith;
         range_held = All-from_recursion (HasRangeCell run) (range_with_len 0 0) tt;
         low = low_cells;
@@ -187,7 +200,7 @@ module _ (p : Listing) (h : HintList) (is_program : IsProgram p) (are_hints : Ar
   given : HoldsGiven p h sizes m
   given = record {
     program = has_program;
-    stack = λ off v at. from_start (place execution off) v (start-stack p h.extra off is_program are_hints.few_extra ∙ at);
+    stack = λ off v at. held.holds (place execution off) v (stack_cell off v at);
     hints = All-weaker _ _ (λ (c : HintCell) is. held.holds c.place c.value is) h.cells completes.hints;
   }
 
@@ -244,6 +257,23 @@ module _ (p : Listing) (h : HintList) (is_program : IsProgram p) (are_hints : Ar
 pub written_run : (p : Listing) (h : HintList) → IsProgram p → AreHints h → (ran : Ran) → run_of (rules_of p.builtins) p h ≡ Ok ran → WrittenRun p h ran
 written_run p h is_program are_hints ran run = written_completed p h is_program are_hints ran (completes_run p h ran is_program are_hints run)
 
+-- ---- where there are no builtins
+
+unused : (n : RunMemory) (is_there : Bool) (seg : ℕ) → ◌≡◌ {A = ℕ} (if is_there then 1 else 0) 0 → IsUsed n (if is_there then Some seg else None) None
+unused n true seg none = absurd (omega arith)
+unused n false seg none = tt
+
+none_used : (m : RunMemory) (b : Builtins) → builtin_count b ≡ 0 → AreUsed m b no_stops
+unfolding layout_of builtin_count
+none_used m b none = record {
+  output = unused m b.output first_builtin (omega arith);
+  range = unused m b.range (if b.output then first_builtin + 1 else first_builtin) (omega arith);
+}
+
+last_leaves : (count : ℕ) (found : Option RelState) (p : Place) → count ≡ 0 → option_map (λ (s : RelState). s.pc) found ≡ Some p → (last : RelState) × (found ≡ Some last) × (count ≤ last.ap.off)
+last_leaves count (Some last) p none there = (last, refl, omega arith)
+last_leaves count None p none there = absurd (cc)
+
 -- ---- what the code's parts ask of a run
 
 module _ (p : Listing) (ran : Ran) (was : WasRun p ran) where
@@ -253,18 +283,26 @@ module _ (p : Listing) (ran : Ran) (was : WasRun p ran) where
   pub was_inside : All (InSegments (length ran.memory.sizes)) ran.states
   was_inside = was_completed.inside
 
-  pub was_executed : 1 < length ran.memory.sizes
-  was_executed =
+  pub was_started : (layout_of p.builtins).first_extra ≤ length ran.memory.sizes
+  unfolding layout_of
+  was_started =
       let count = start-count p was.hints.extra was.is_program was.are_hints.few_extra in
       let grown = was_completed.started.segments in
       omega arith
 
-  pub was_run_of : IsRunOf p (laid_out ran)
+  pub was_used : AreUsed ran.memory p.builtins ran.stops
+  was_used = subst (AreUsed ran.memory p.builtins) (sym was_completed.stops) (none_used ran.memory p.builtins was_completed.no_builtins)
+
+  pub was_left : LeavesCells (builtin_count p.builtins) ran.states
+  unfolding last_pc
+  was_left = last_leaves (builtin_count p.builtins) (slice_get ran.states (length ran.states - 1)) (place 0 p.end) was_completed.no_builtins was_completed.last
+
+  pub was_run_of : IsRunOf p (laid_out p ran)
   was_run_of = is_run p was.hints was.is_program was.are_hints ran was_completed
 
 -- ---- what the code's parts ask of a run that is laid out
 
-module _ (p : Listing) (ran : Ran) (was : WasRun p ran) (run : FieldRun) (same : field_run run ≡ laid_out ran) where
+module _ (p : Listing) (ran : Ran) (was : WasRun p ran) (run : FieldRun) (same : field_run run ≡ laid_out p ran) where
   pub laid_run_of : IsRunOf p (field_run run)
   laid_run_of = subst (IsRunOf p) (sym same) (was_run_of p ran was)
 

@@ -101,7 +101,7 @@ module _ (program hints trace memory public tables : Name) (files : Files) where
     is_written = written_run run.held.program.value run.held.hints.value run.held.program.spelled.program run.held.hints.spelled.hints run.ran run.completes
 
     abbrev laid : RelocatedRun
-    laid = laid_out run.ran
+    laid = laid_out run.held.program.value run.ran
 
     abbrev trace_file : List ℕ
     trace_file = trace_bytes laid.states
@@ -116,7 +116,7 @@ module _ (program hints trace memory public tables : Name) (files : Files) where
     tables_file = spelling (run_tables run.held.program.value laid)
 
     abbrev left : Files
-    left = written (run_files trace memory public tables run.held.program.value (laid_out run.ran)) files
+    left = written (run_files trace memory public tables run.held.program.value (laid_out run.held.program.value run.ran)) files
 
     -- what is left is a legal run
     left_walked : WalksLegally trace memory left
@@ -157,7 +157,7 @@ module _ (program hints trace memory public tables : Name) (files : Files) where
           held = record {
             program = record {
               bytes = run.held.program.bytes;
-              held = held_after (run_files trace memory public tables run.held.program.value (laid_out run.ran)) files program (input_apart program (hints ∷ []) outputs apart) ∙ run.held.program.held;
+              held = held_after (run_files trace memory public tables run.held.program.value (laid_out run.held.program.value run.ran)) files program (input_apart program (hints ∷ []) outputs apart) ∙ run.held.program.held;
               short = run.held.program.short;
               value = run.held.program.value;
               spelled = run.held.program.spelled;

@@ -1,8 +1,10 @@
 -- The relocated cells, one place after another.
-use Rattle.std.proofs.Common.{◌≡◌, ℕ, ◌+◌, ◌<◌, ◌≤◌, List, [], ◌∷◌, ◌++◌, map, take, length, get_or, Option, Some, None, refl, sym, ◌∙◌, ap, arith}
+use Rattle.std.proofs.Common.{◌≡◌, ℕ, ◌+◌, ◌<◌, ◌≤◌, List, [], ◌∷◌, ◌++◌, map, take, length, get_or, Option, Some, None, refl, sym, ◌∙◌, ap, arith, zero-add}
+use Rattle.std.specs.List.{range_with_len}
 use Rattle.std.specs.FinMap.{entries, entries_sorted}
 use Rattle.std.specs.FinMap.Entries.{find}
 use Rattle.std.proofs.lemmas.List.{map_push, map_more, take_all, map-append}
+use Rattle.std.proofs.lemmas.List.FromFn.{map-range_with_len_more}
 use Rattle.goldilocks.specs.declared.Felt.{Felt}
 use Rattle.goldilocks.specs.declared.Pair.{Pair}
 use Rattle.goldilocks.specs.Felts.{felt, numbers}
@@ -17,6 +19,9 @@ use Rattle.segments.specs.declared.Value.TheVariants.{Num, Ptr}
 use Rattle.segments.specs.Values.{place_cmp, place}
 use Rattle.segments.specs.Memory.{RunMemory, IsMemory, cell, size}
 use Rattle.segments.specs.Relocation.{address, relocated, segment_bases}
+use Rattle.program_file.specs.declared.Builtins.{Builtins}
+use Rattle.builtin_segments.specs.Layout.{execution}
+use Rattle.builtin_segments.specs.Start.{start_stack}
 use Rattle.relocation.specs.Bases.{HasBase}
 use Rattle.relocation.specs.Relocated.{relocated_cell, relocated_cells, shown_places}
 use Rattle.relocation.specs.Walk.{held_before, cells_before}
@@ -93,8 +98,19 @@ states_more at before after states i x s inside is so_far same pushed =
 pub states_all : (at : RelState → Registers) (list : List State) (states : List RelState) (i : ℕ) → length states ≤ i → map registers list ≡ map at (take i states) → map registers list ≡ map at states
 states_all at list states i whole so_far = so_far ∙ ap (map at) (take_all i states whole)
 
-pub two_shown : (sizes : List ℕ) (none one two : List Felt) (a b : Felt) → none ≡ [] → one ≡ none ++ a ∷ [] → two ≡ one ++ b ∷ [] → a.number ≡ address sizes (place 1 0) → b.number ≡ address sizes (place 1 1) → numbers two ≡ map (address sizes) shown_places
+-- the addresses of the first cells of the execution segment, as many as there are
+abbrev pub first_addresses : List ℕ → ℕ → List ℕ
+first_addresses sizes count = map (address sizes) (map (place execution) (range_with_len 0 count))
+
+pub more_shown : (sizes : List ℕ) (before after : List Felt) (off : ℕ) (a : Felt) → numbers before ≡ first_addresses sizes off → after ≡ before ++ a ∷ [] → a.number ≡ address sizes (place execution off) → numbers after ≡ first_addresses sizes (off + 1)
+more_shown sizes before after off a so_far pushed at =
+    ap numbers pushed
+    ∙ (map_push (λ (x : Felt). x.number) before a
+    ∙ (ap (λ front. front ++ a.number ∷ []) so_far
+    ∙ (ap (λ n. first_addresses sizes off ++ n ∷ []) at
+    ∙ (sym (map_push (address sizes) (map (place execution) (range_with_len 0 off)) (place execution off))
+    ∙ ap (map (address sizes)) (sym (map-range_with_len_more (place execution) 0 off off (zero-add off)))))))
+
+pub all_shown : (sizes : List ℕ) (b : Builtins) (list : List Felt) (off : ℕ) → off ≡ length (start_stack b) → numbers list ≡ first_addresses sizes off → numbers list ≡ map (address sizes) (shown_places b)
 unfolding shown_places
-two_shown sizes none one two a b empty first second at_a at_b =
-    let list : two ≡ a ∷ b ∷ [] = second ∙ (ap (λ (front : List Felt). front ++ b ∷ []) first ∙ ap (λ (front : List Felt). (front ++ a ∷ []) ++ b ∷ []) empty) in
-    ap numbers list ∙ (λ i. at_a i ∷ at_b i ∷ [])
+all_shown sizes b list off whole so_far = so_far ∙ ap (first_addresses sizes) whole

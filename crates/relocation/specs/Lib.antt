@@ -5,4 +5,7 @@ pub use Rattle.segments.specs.Memory
 pub use Rattle.segments.specs.Relocation
 pub use Rattle.goldilocks.specs.Cells
 pub use Rattle.casm_word.specs.Run
+pub use Rattle.builtin_segments.specs.Layout
+pub use Rattle.builtin_segments.specs.Start
+pub use Rattle.builtin_segments.specs.Used
 pub use Rattle.run_steps.specs.ValueRun

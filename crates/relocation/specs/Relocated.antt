@@ -1,5 +1,6 @@
 -- A run of the machine in one memory of numbers: what a run is once its segments have addresses.
-use Rattle.std.specs.Prelude.{◌≡◌, ℕ, List, [], ◌∷◌, map, Some}
+use Rattle.std.specs.Prelude.{◌≡◌, ℕ, ◌-◌, ◌≤◌, List, length, map, slice_get, Some}
+use Rattle.std.specs.List.{range_with_len}
 use Rattle.std.specs.FinMap.{entries}
 use Rattle.goldilocks.specs.declared.Pair.{Pair}
 use Rattle.goldilocks.specs.Felts.{felt, numbers}
@@ -11,7 +12,10 @@ use Rattle.segments.specs.declared.Value.{Value}
 use Rattle.segments.specs.Values.{place}
 use Rattle.segments.specs.Memory.{RunMemory, cell}
 use Rattle.segments.specs.Relocation.{address, relocated}
+use Rattle.program_file.specs.declared.Builtins.{Builtins}
+use Rattle.builtin_segments.specs.declared.layout.Stops.{Stops}
 use Rattle.builtin_segments.specs.Layout.{execution}
+use Rattle.builtin_segments.specs.Start.{start_stack}
 use Rattle.run_steps.specs.ValueRun.{registers_at}
 use Rattle.trace_files.specs.CellList.{listed}
 use Rattle.relocation.specs.declared.run.FieldRun.{FieldRun}
@@ -38,16 +42,23 @@ abbrev pub IsHeldCell : RunMemory → Pair → Type 0
 IsHeldCell m c =
     (p : Place) × (v : Value) × (cell m p ≡ Some v) × (c.addr.number ≡ address m.sizes p) × (c.value.number ≡ relocated m.sizes v)
 
--- The places of the cells that are shown: the first two of the execution segment, where a run's stack starts. Own.
-unfoldable pub shown_places : List Place
-shown_places = place execution 0 ∷ place execution 1 ∷ []
+-- The places of the cells that are shown: the first cells of the execution segment, as many as the start stack has. Own.
+unfoldable pub shown_places : Builtins → List Place
+shown_places b = map (place execution) (range_with_len 0 (length (start_stack b)))
 
--- The run over numbers that a run over values is: all its states and cells are relocated. It has no range cells. Own.
-unfoldable pub relocated_run : RunMemory → List RelState → RelocatedRun
-relocated_run m states = record {
+-- There is a last state, and so many cells or more lie before its ap. Own.
+abbrev pub LeavesCells : ℕ → List RelState → Type 0
+LeavesCells count states =
+    (last : RelState) × (slice_get states (length states - 1) ≡ Some last) × (count ≤ last.ap.off)
+
+-- The run over numbers that a run over values is, for a program with these builtins that used so much of their segments:
+-- all its states and cells are relocated. Until programs with builtins are run, it shows no cell but those of the start
+-- stack and has no range cells. Own.
+unfoldable pub relocated_run : Builtins → Stops → RunMemory → List RelState → RelocatedRun
+relocated_run b stops m states = record {
   states = map (registers_at m.sizes) states;
   cells = relocated_cells m;
-  shown = map (address m.sizes) shown_places;
+  shown = map (address m.sizes) (shown_places b);
   range_begin = 0;
   range_count = 0;
 }

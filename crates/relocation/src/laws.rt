@@ -1,5 +1,5 @@
 //! Laws of the definitions: functions that do nothing, and whose contracts say what always holds.
-ghost use Rattle.std.specs.Prelude.{◌≡◌, ℕ, ◌+◌, ◌≤◌, All, List, Some, IsSome, sum, slice_get};
+ghost use Rattle.std.specs.Prelude.{◌≡◌, ℕ, ◌+◌, ◌≤◌, All, List, Some, IsSome, length, sum, slice_get};
 ghost use Rattle.std.specs.List.Sorted.{IsStrictlyIncreasing};
 ghost use Rattle.goldilocks.specs.declared.Felt.{Felt};
 ghost use Rattle.goldilocks.specs.Cells.{memory_of, addresses, cells_from};
@@ -12,6 +12,9 @@ ghost use Rattle.segments.specs.declared.Value.TheVariants.{Num};
 ghost use Rattle.segments.specs.Values.{place};
 ghost use Rattle.segments.specs.Memory.{RunMemory, IsMemory, cell, total_limit};
 ghost use Rattle.segments.specs.Relocation.{address};
+ghost use Rattle.program_file.specs.declared.Builtins.{Builtins};
+ghost use Rattle.builtin_segments.specs.declared.layout.Stops.{Stops};
+ghost use Rattle.builtin_segments.specs.Layout.{builtin_count};
 ghost use Rattle.run_steps.specs.ValueRun.{HoldsRelocated, ValueRun};
 ghost use Rattle.relocation.specs.Relocated.{relocated_cells, relocated_run, shown_places, IsHeldCell};
 
@@ -37,13 +40,16 @@ pub fn cell_laws()
 /// the field.
 pub fn run_laws()
     // What is a run over values is a legal run once the segments have addresses.
-    ensures legal { (m : RunMemory) (states : List RelState) → IsMemory m → ValueRun m states →
-        LegalRun (memory_of (relocated_run m states).cells) (relocated_run m states).states }
-    ensures shown_ascend { (m : RunMemory) (states : List RelState) →
-        IsStrictlyIncreasing (relocated_run m states).shown }
-    ensures shown_held { (m : RunMemory) (states : List RelState) → IsMemory m →
-        All (λ p. IsSome (cell m p)) shown_places →
-        All (λ a. IsSome (memory_of (relocated_cells m) a)) (relocated_run m states).shown }
+    ensures legal { (b : Builtins) (stops : Stops) (m : RunMemory) (states : List RelState) → IsMemory m →
+        ValueRun m states →
+        LegalRun (memory_of (relocated_run b stops m states).cells) (relocated_run b stops m states).states }
+    ensures shown_count { (b : Builtins) (stops : Stops) (m : RunMemory) (states : List RelState) →
+        length (relocated_run b stops m states).shown ≡ 2 + builtin_count b }
+    ensures shown_ascend { (b : Builtins) (stops : Stops) (m : RunMemory) (states : List RelState) →
+        IsStrictlyIncreasing (relocated_run b stops m states).shown }
+    ensures shown_held { (b : Builtins) (stops : Stops) (m : RunMemory) (states : List RelState) → IsMemory m →
+        All (λ p. IsSome (cell m p)) (shown_places b) →
+        All (λ a. IsSome (memory_of (relocated_cells m) a)) (relocated_run b stops m states).shown }
 
     // A legal run whose first state is in the field stays there.
     ensures in_field { (m : RunMemory) (states : List Registers) → LegalRun (memory_of (relocated_cells m)) states →

@@ -7,40 +7,46 @@ ghost use Rattle.trace_files.specs.CellList.{listed};
 ghost use Rattle.segments.specs.Values.{place};
 ghost use Rattle.segments.specs.Memory.{total_limit};
 ghost use Rattle.segments.specs.Relocation.{address, segment_bases};
-ghost use Rattle.builtin_segments.specs.Layout.{execution};
+ghost use Rattle.builtin_segments.specs.Layout.{execution, builtin_count, layout_of};
+ghost use Rattle.builtin_segments.specs.Used.{AreUsed};
 ghost use Rattle.run_steps.specs.ValueRun.{InSegments, registers_at};
-ghost use Rattle.relocation.specs.Relocated.{field_run, relocated_run, relocated_cells, shown_places};
+ghost use Rattle.relocation.specs.Relocated.{field_run, relocated_run, relocated_cells, shown_places, LeavesCells};
 ghost use Rattle.relocation.specs.Walk.{cells_before};
 
 use crate::{FieldRun, bases, relocate_value};
+use builtin_segments::{EXECUTION, Stops, start_stack_length};
 use casm_word::State;
 use goldilocks::{Felt, Pair};
+use program_file::Builtins;
 use segments::{Place, RelState, Segments, Value};
 use std::alloc::{AllocError, Global};
 use trace_files::CellList;
 
-/// The segment in which a run's stack starts.
-const EXECUTION: u32 = 1;
-
 /// The run over numbers that these states are in this memory, once its segments have addresses: the states and all cells
-/// are relocated. Shown are the first two cells of the execution segment, where the stack starts. There are no range
+/// are relocated. Shown are the cells of the start stack, which the execution segment begins with. There are no range
 /// cells.
 ///
-/// The segments that the states name are there, and the execution segment is. The only error is want of memory.
+/// The segments that the states name are there, and those of the builtins are. `stops` has a number for exactly the
+/// builtins, none of them above the size of its segment. There is a last state, and one cell a builtin lies before its
+/// ap. The only error is want of memory.
 pub fn relocate(
     alloc: Global,
     memory: &Segments,
     states: &[RelState],
+    builtins: Builtins,
+    stops: Stops,
 ) -> Result<FieldRun, AllocError>
     requires inside { All (InSegments (length memory.now.sizes)) states.now }
-    requires execution { 1 < length memory.now.sizes }
-    ensures run { IfOk result (λ run. field_run run ≡ relocated_run memory.now states.now) }
+    requires layout { (layout_of builtins).first_extra ≤ length memory.now.sizes }
+    requires used { AreUsed memory.now builtins stops }
+    requires last { LeavesCells (builtin_count builtins) states.now }
+    ensures run { IfOk result (λ run. field_run run ≡ relocated_run builtins stops memory.now states.now) }
 {
     let bases = bases(alloc, memory)?;
     Ok(FieldRun {
         states: relocated_states(alloc, &bases, states)?,
         cells: relocated_cells(alloc, memory, &bases)?,
-        shown: shown_addresses(alloc, &bases)?,
+        shown: shown_addresses(alloc, &bases, builtins)?,
         range_begin: Felt::ZERO,
         range_count: 0,
     })
@@ -143,15 +149,21 @@ fn push_cell(
 }
 
 /// The addresses of the cells that are shown.
-fn shown_addresses(alloc: Global, bases: &[u64]) -> Result<Vec<Felt>, AllocError>
+fn shown_addresses(
+    alloc: Global,
+    bases: &[u64],
+    builtins: Builtins,
+) -> Result<Vec<Felt>, AllocError>
     requires low { All (λ b. b ≤ total_limit + 1) bases.now }
     requires execution { 1 < length bases.now }
     ensures { (sizes : List ℕ) → bases.now ≡ segment_bases sizes →
-        IfOk result (λ list. numbers list.items ≡ map (address sizes) shown_places) }
+        IfOk result (λ list. numbers list.items ≡ map (address sizes) (shown_places builtins)) }
 {
-    let mut list = Vec::with_capacity(alloc, 2)?;
-    list.push(address_at(bases, stack_place(0)))?;
-    list.push(address_at(bases, stack_place(1)))?;
+    let count = start_stack_length(builtins);
+    let mut list = Vec::with_capacity(alloc, count as usize)?;
+    for off in 0..count {
+        list.push(address_at(bases, stack_place(off)))?;
+    }
     Ok(list)
 }
 

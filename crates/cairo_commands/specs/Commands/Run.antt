@@ -50,9 +50,9 @@ refused_line fault = codes "run: " ++ (fault_text fault ++ codes "\n")
 
 -- ---- its files
 
--- A run that came to its end, once its segments are laid out. Own.
-abbrev pub laid_out : Ran → RelocatedRun
-laid_out ran = relocated_run ran.memory ran.states
+-- A run of this program that came to its end, once its segments are laid out. Own.
+abbrev pub laid_out : Listing → Ran → RelocatedRun
+laid_out p ran = relocated_run p.builtins ran.stops ran.memory ran.states
 
 -- The tables of a run of this program that is laid out, with its public input. The whitepaper's columns of the Cairo machine.
 abbrev pub run_tables : Listing → RelocatedRun → Contents
@@ -73,8 +73,8 @@ run_files trace memory public tables p run =
 abbrev pub ended_answer : (trace memory public tables : Name) → Listing → Result Ran RunFault → Answer
 ended_answer trace memory public tables p (Ok ran) = record {
   status = Done;
-  writes = run_files trace memory public tables p (laid_out ran);
-  line = ended_line (length (laid_out ran).states - 1) (length (laid_out ran).cells);
+  writes = run_files trace memory public tables p (laid_out p ran);
+  line = ended_line (length (laid_out p ran).states - 1) (length (laid_out p ran).cells);
 }
 ended_answer trace memory public tables p (Err fault) = says Run (refused_line fault)
 
@@ -107,6 +107,10 @@ pub record RunsToEnd (program hints : Name) (files : Files) : Type 0 where
   pub ran : Ran
   pub completes : run_of (rules_of held.program.value.builtins) held.program.value held.hints.value ≡ Ok ran
 
+-- That run, once its segments are laid out. Own.
+abbrev pub laid : {program hints : Name} {files : Files} → RunsToEnd program hints files → RelocatedRun
+laid run = laid_out run.held.program.value run.ran
+
 -- The files are within their limits and spell a program and hints, and the run of the program with these hints is refused
 -- for this cause. Own.
 pub record RefusesRun (program hints : Name) (files : Files) : Type 0 where
@@ -131,18 +135,18 @@ pub record HoldsGiven (p : Listing) (h : HintList) (sizes : List ℕ) (m : Memor
 pub record RunMeans (program hints trace memory public tables : Name) (files : Files) (status : Status) (after : Option Files) (before now : Option (List ℕ)) : Type 0 where
   pub ran : (status ≡ Done) ↔ RunsToEnd program hints files
   pub files_written : (run : RunsToEnd program hints files) →
-      after ≡ Some (written (run_files trace memory public tables run.held.program.value (laid_out run.ran)) files)
-  pub legal : (run : RunsToEnd program hints files) → LegalRun (memory_of (laid_out run.ran).cells) (laid_out run.ran).states
+      after ≡ Some (written (run_files trace memory public tables run.held.program.value (laid run)) files)
+  pub legal : (run : RunsToEnd program hints files) → LegalRun (memory_of (laid run).cells) (laid run).states
   pub holds : (run : RunsToEnd program hints files) →
-      HoldsGiven run.held.program.value run.held.hints.value run.ran.memory.sizes (memory_of (laid_out run.ran).cells)
-  pub of_run : (run : RunsToEnd program hints files) → AreTablesOf run.held.program.value (public_of (laid_out run.ran))
-      (memory_of (laid_out run.ran).cells) (laid_out run.ran).states (run_tables run.held.program.value (laid_out run.ran))
+      HoldsGiven run.held.program.value run.held.hints.value run.ran.memory.sizes (memory_of (laid run).cells)
+  pub of_run : (run : RunsToEnd program hints files) → AreTablesOf run.held.program.value (public_of (laid run))
+      (memory_of (laid run).cells) (laid run).states (run_tables run.held.program.value (laid run))
   pub walked : (run : RunsToEnd program hints files) →
-      WalksLegally trace memory (written (run_files trace memory public tables run.held.program.value (laid_out run.ran)) files)
+      WalksLegally trace memory (written (run_files trace memory public tables run.held.program.value (laid run)) files)
   pub checked : (run : RunsToEnd program hints files) →
-      MeetsConstraints program public tables (written (run_files trace memory public tables run.held.program.value (laid_out run.ran)) files)
+      MeetsConstraints program public tables (written (run_files trace memory public tables run.held.program.value (laid run)) files)
   pub line : (run : RunsToEnd program hints files) →
-      Appends before now (ended_line (length (laid_out run.ran).states - 1) (length (laid_out run.ran).cells))
+      Appends before now (ended_line (length (laid run).states - 1) (length (laid run).cells))
   pub refused : (status ≡ Run) ↔ RefusesRun program hints files
   pub refused_line : (run : RefusesRun program hints files) → Appends before now (refused_line run.fault)
   pub unwritten : (status ≡ Done → ⊥) → after ≡ Some files

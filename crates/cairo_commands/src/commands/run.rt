@@ -10,7 +10,7 @@ ghost use Rattle.public_input.specs.Valid.{IsValid};
 ghost use Rattle.public_input.specs.Written.{written as public_bytes};
 ghost use Rattle.table_file.specs.Tables.{contents, AreValid};
 ghost use Rattle.table_file.specs.Spelling.{spelling};
-ghost use Rattle.program_file.specs.Listing.{Listing, IsProgram, listing};
+ghost use Rattle.program_file.specs.Listing.{IsProgram, listing};
 ghost use Rattle.hint_cells.specs.HintList.{AreHints, hint_list};
 ghost use Rattle.builtin_segments.specs.Rules.{rules_of};
 ghost use Rattle.vm_runner.specs.Run.{run_of};
@@ -146,7 +146,7 @@ fn written<'w>(
     ensures { IfOk result (λ work. work_answer work ≡ spec.ended_answer names.entry.trace.now names.entry.memory.now names.entry.public.now names.entry.tables.now
         (listing program.now) (Ok (ran completed))) }
 {
-    let run = laid_out(alloc, completed)?;
+    let run = laid_out(alloc, program, completed)?;
     let public = public_of(alloc, &run)?;
     let tables = tables_of(alloc, program, &public, &run)?;
     let outputs = outputs(alloc, names, &run, &public, &tables)?;
@@ -155,11 +155,16 @@ fn written<'w>(
 }
 
 /// The run once its segments are laid out. Its memory of segments is given back.
-fn laid_out(alloc: Global, completed: Completed) -> Result<FieldRun, AllocError>
-    requires { (p : Listing) × WasRun p (ran completed) }
-    ensures { IfOk result (λ run. field_run run ≡ spec.laid_out (ran completed)) }
+fn laid_out(alloc: Global, program: &Program, completed: Completed) -> Result<FieldRun, AllocError>
+    requires { WasRun (listing program.now) (ran completed) }
+    ensures { IfOk result (λ run. field_run run ≡ spec.laid_out (listing program.now) (ran completed)) }
 {
-    relocate(alloc, &completed.memory, &completed.states)
+    let Completed {
+        memory,
+        states,
+        stops,
+    } = completed;
+    relocate(alloc, &memory, &states, program.builtins(), stops)
 }
 
 /// The tables of a run. Nothing stands in their way but want of memory.

@@ -1,5 +1,6 @@
 use Rattle.std.proofs.Common.{◌≡◌, ℕ, List, All, length, sym, ◌∙◌, ap, subst, arith}
 use Rattle.segments.specs.Relocation.{segment_bases}
+use Rattle.builtin_segments.specs.Layout.{layout_of}
 use Rattle.run_steps.specs.ValueRun.{InSegments}
 use Rattle.relocation.specs.Relocated.{relocated_run}
 use Rattle.relocation.proofs.Listed.{length-segment_bases}
@@ -12,9 +13,10 @@ relocated_states-requires-clause-inside c =
     subst (λ n. All (InSegments n) c.args.states.now) (sym count) c.requires.inside
 
 pub shown_addresses-requires-clause-execution : goal.shown_addresses-requires-clause-execution
+unfolding layout_of
 shown_addresses-requires-clause-execution c =
     let same : c.deref-3.result.now ≡ segment_bases c.args.memory.now.sizes = c.deref-3.ensures.value ∙ c.in_ok-bases.ensures.bases in
-    omega (arith, ap length same, length-segment_bases c.args.memory.now.sizes, c.requires.execution)
+    omega (arith, ap length same, length-segment_bases c.args.memory.now.sizes, c.requires.layout)
 
 pub returns : goal.returns
 unfolding relocated_run
