@@ -62,7 +62,7 @@ module _ (program public tables : Name) (files : Files) where
         ∙ (then_read public_format 2 public files held.public.value (public_is_read public files held.public) (λ u. read_as tables_format 3 tables files >>= λ t. Ok (of_values held.program.value u t))
         ∙ then_read tables_format 3 tables files held.tables.value (tables_are_read tables files held.tables) (λ t. Ok (of_values held.program.value held.public.value t)))
 
-  check_answer-met : (check : MeetsConstraints program public tables files) → check_answer program public tables files ≡ says Done (accepted_line (length check.held.tables.value.rows))
+  pub check_answer-met : (check : MeetsConstraints program public tables files) → check_answer program public tables files ≡ says Done (accepted_line (length check.held.tables.value.rows))
   unfolding of_values
   check_answer-met check =
       check_answer-read check.held

@@ -53,7 +53,10 @@ use Rattle.table_file.specs.Limits.{tables_limit}
 use Rattle.table_file.specs.Tables.{Contents}
 use Rattle.table_file.specs.Spelling.{spelling, SpellsTables}
 use Rattle.table_file.proofs.Lengths.{length-spelled_tables}
+use Rattle.constraint_checker.specs.declared.Verdict.TheVariants.{Accepted}
 use Rattle.constraint_checker.specs.Constraints.{MeetsAll}
+use Rattle.constraint_checker.specs.Verdict.{verdict}
+use Rattle.constraint_checker.proofs.Acceptances.{accepted_exactly}
 use Rattle.table_builder.specs.declared.faults.BuildFault.{BuildFault}
 use Rattle.table_builder.specs.declared.faults.BuildFault.TheVariants as fault_is
 use Rattle.table_builder.specs.Findings.{Finding, finding_of}
@@ -256,6 +259,31 @@ module _ (p : Listing) (h : HintList) (is_program : IsProgram p) (are_hints : Ar
 -- what is written of the run of a program with its hints
 pub written_run : (p : Listing) (h : HintList) → IsProgram p → AreHints h → (ran : Ran) → run_of (rules_of p.builtins) p h ≡ Ok ran → WrittenRun p h ran
 written_run p h is_program are_hints ran run = written_completed p h is_program are_hints ran (completes_run p h ran is_program are_hints run)
+
+-- ---- what is said of every run that came to its end
+
+module _ (p : Listing) (h : HintList) (ran : Ran) (is_program : IsProgram p) (are_hints : AreHints h) (run_is : run_of (rules_of p.builtins) p h ≡ Ok ran) where
+  abbrev came_to_end : Completes p h ran
+  came_to_end = completes_run p h ran is_program are_hints run_is
+
+  pub run_of_program : IsRunOf p (laid_out p ran)
+  run_of_program = is_run p h is_program are_hints ran came_to_end
+
+  pub run_stated : CanBeStated (laid_out p ran)
+  run_stated = can_be_stated p (laid_out p ran) run_of_program
+
+  pub run_legal : LegalRun (memory_of (laid_out p ran).cells) (laid_out p ran).states
+  run_legal = run_of_program.legal
+
+  pub run_given : HoldsGiven p h ran.memory.sizes (memory_of (laid_out p ran).cells)
+  run_given = given p h is_program are_hints ran came_to_end
+
+  pub tables_built : building p (public_of (laid_out p ran)) (memory_of (laid_out p ran).cells) (laid_out p ran).states ≡ Ok (run_tables p (laid_out p ran))
+  tables_built = built p h is_program are_hints ran came_to_end
+
+  pub tables_accepted : verdict p (public_of (laid_out p ran)) (run_tables p (laid_out p ran)) ≡ Accepted
+  tables_accepted =
+      (accepted_exactly p (public_of (laid_out p ran)) (run_tables p (laid_out p ran))).1 (written_completed p h is_program are_hints ran came_to_end).meets
 
 -- ---- where there are no builtins
 

@@ -18,3 +18,4 @@ pub mod TextSizes
 pub mod ProgramSizes
 pub mod PublicSizes
 pub mod AgainLaws
+pub mod RunAgain

@@ -1,5 +1,5 @@
 -- What the endings of `run` mean.
-use Rattle.std.proofs.Common.{◌≡◌, ℕ, true, List, [], ◌∷◌, Some, Result, Ok, Err, refl, sym, ap, ◌∙◌, subst}
+use Rattle.std.proofs.Common.{◌≡◌, ℕ, ◌-◌, true, List, [], ◌∷◌, length, Some, Result, Ok, Err, refl, sym, ap, ◌∙◌, subst}
 use Rattle.std.specs.FinMap.{insert}
 use Rattle.std.specs.Io.KnownBytes.{Appends}
 use Rattle.program_file.specs.Listing.{Listing}
@@ -12,7 +12,7 @@ use Rattle.trace_files.specs.TraceFile.{trace_bytes}
 use Rattle.trace_files.specs.MemoryFile.{memory_bytes}
 use Rattle.public_input.specs.Written.{written as public_bytes}
 use Rattle.table_file.specs.Spelling.{spelling}
-use Rattle.table_builder.specs.Public.{public_of}
+use Rattle.table_builder.specs.Public.{public_of, stated_with}
 use Rattle.file_port.specs.Files.{Name, Files}
 use Rattle.file_port.specs.Seen.{Seen, SinkSeen}
 use Rattle.command_words.specs.Names.{are_names}
@@ -23,13 +23,15 @@ use Rattle.command_frame.specs.Formats.{◌>>=◌, read_as}
 use Rattle.command_frame.specs.Evidence.{Replied}
 use Rattle.cairo_commands.specs.Programs.{program_format}
 use Rattle.cairo_commands.specs.HintFiles.{hints_format}
-use Rattle.cairo_commands.specs.Commands.Walk.{WalksLegally}
-use Rattle.cairo_commands.specs.Commands.Check.{MeetsConstraints}
+use Rattle.cairo_commands.specs.Commands.Walk.{WalksLegally, walk_answer, steps_line}
+use Rattle.cairo_commands.specs.Commands.Check.{MeetsConstraints, check_answer, accepted_line}
 use Rattle.cairo_commands.specs.Commands.Run.{laid_out, run_tables, run_files, ended_answer, run_answer, refused_line, HoldsHinted, RunsToEnd, RefusesRun, RunMeans}
 use Rattle.command_frame.proofs.OwnStatus.{IsOwn, Done_is_own, Run_is_own}
 use Rattle.command_frame.proofs.Readings.{read_ended, then_read}
 use Rattle.command_frame.proofs.WrittenFiles.{held_after, held_written}
 use Rattle.cairo_commands.proofs.HeldFiles.{program_is_read, HoldsProgram-from_read, hints_are_read, HoldsHints-from_read}
+use Rattle.cairo_commands.proofs.WalkTheorem.{walk_answer-legal}
+use Rattle.cairo_commands.proofs.CheckTheorem.{check_answer-met}
 use Rattle.cairo_commands.proofs.NamesApart.{stand_apart-kept, output_apart, input_apart}
 use Rattle.cairo_commands.proofs.CompletedRuns.{WrittenRun, written_run}
 use Rattle.cairo_commands.proofs.ReplyLaws.{settled_run}
@@ -70,7 +72,7 @@ module _ (program hints trace memory public tables : Name) (files : Files) where
       then_read program_format 1 program files held.program.value (program_is_read program files held.program) (λ p. read_as hints_format 2 hints files >>= λ h. Ok (of_values trace memory public tables p h))
       ∙ then_read hints_format 2 hints files held.hints.value (hints_are_read hints files held.hints) (λ h. Ok (of_values trace memory public tables held.program.value h))
 
-  run_answer-ended : (run : RunsToEnd program hints files) → run_answer program hints trace memory public tables files ≡ ended_answer trace memory public tables run.held.program.value (Ok run.ran)
+  pub run_answer-ended : (run : RunsToEnd program hints files) → run_answer program hints trace memory public tables files ≡ ended_answer trace memory public tables run.held.program.value (Ok run.ran)
   unfolding of_values
   run_answer-ended run = run_answer-read run.held ∙ ap (ended_answer trace memory public tables run.held.program.value) run.completes
 
@@ -179,6 +181,16 @@ module _ (program hints trace memory public tables : Name) (files : Files) where
           };
           meets = is_written.meets;
         }
+
+    -- so they are what `walk` and `check` answer with `Done`
+    pub walked_again : walk_answer trace memory left ≡ says Done (steps_line (length laid.states - 1))
+    unfolding left_walked
+    walked_again = walk_answer-legal trace memory left left_walked
+
+    pub checked_again : check_answer program public tables left ≡ says Done (accepted_line (length laid.states - 1))
+    unfolding left_checked public_of stated_with
+    checked_again =
+        check_answer-met program public tables left left_checked ∙ ap (λ rows. says Done (accepted_line rows)) is_written.of_run.row_count
 
   -- the reply means what is said of `run`
   pub RunMeans-from_reply : are_names (program ∷ hints ∷ []) (trace ∷ memory ∷ public ∷ tables ∷ []) ≡ true → (status : Status) (after : Seen) (sink_before sink_after : SinkSeen) → Replied (run_answer program hints trace memory public tables files) files status after sink_before sink_after → RunMeans program hints trace memory public tables files status after.files sink_before.written sink_after.written

@@ -51,7 +51,7 @@ module _ (trace memory : Name) (files : Files) where
         then_read trace_format 1 trace files both.trace.value (trace_is_read trace files both.trace) (λ states. read_as memory_format 2 memory files >>= λ cells. Ok (walked states (first_refused (memory_of cells) states)))
         ∙ then_read memory_format 2 memory files both.memory.value (memory_is_read memory files both.memory) (λ cells. Ok (walked both.trace.value (first_refused (memory_of cells) both.trace.value)))
 
-  walk_answer-legal : (walk : WalksLegally trace memory files) → walk_answer trace memory files ≡ says Done (steps_line (length walk.spelled.trace.value - 1))
+  pub walk_answer-legal : (walk : WalksLegally trace memory files) → walk_answer trace memory files ≡ says Done (steps_line (length walk.spelled.trace.value - 1))
   unfolding first_refused
   walk_answer-legal walk =
       let all = recursion_from_All (IsStep (memory_of walk.spelled.memory.value)) (steps walk.spelled.trace.value) walk.legal.each_next in

@@ -17,7 +17,7 @@ mod run_files;
 mod table_inputs;
 mod tools;
 
-pub use again::again_laws;
+pub use again::{again_laws, run_again_laws};
 pub use command_frame::{Status, sure_laws};
 use command_frame::{Refusal, Work, finish};
 use command_words::{Command, Form, form};
@@ -28,7 +28,7 @@ use commands::run::{RunNames, run};
 use commands::tables::{TablesNames, tables};
 use commands::walk::{WalkNames, walk};
 use file_port::{Sink, Store};
-pub use laws::{limit_laws, position_laws, reply_laws};
+pub use laws::{completed_run_laws, limit_laws, position_laws, reply_laws};
 use std::alloc::Global;
 use tools::Tools;
 
