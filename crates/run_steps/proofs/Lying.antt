@@ -20,9 +20,10 @@ use Rattle.casm_word.specs.declared.Word.{Word}
 use Rattle.run_steps.specs.declared.cause.StepCause.{StepCause}
 use Rattle.run_steps.specs.declared.cause.StepCause.TheVariants.{NotPointer, PcNotPointer, FpNotPointer, Unknown}
 use Rattle.run_steps.specs.Causes.{pointed, by_arithmetic}
-use Rattle.run_steps.specs.Operands.{instruction_in, place_behind, res_of, is_zero}
+use Rattle.run_steps.specs.Operands.{instruction_in, place_after, res_of, is_zero}
 use Rattle.run_steps.specs.Next.{place_sum, next_pc, next_ap, next_fp}
-use Rattle.run_steps.specs.Deduction.{known_difference, known_quotient, called_op0, sought_op0, sought_op1, found_dst}
+use Rattle.run_steps.specs.Deduction.{known_difference, known_quotient}
+use Rattle.run_steps.specs.Cases.{called_op0, sought_op0, sought_op1, found_dst}
 use Rattle.run_steps.proofs.Chains.{IfOk-cond, then_ok, by_arithmetic-ok}
 
 -- a pointer's segment is one of so many
@@ -143,11 +144,11 @@ module _ (count : ℕ) where
   in_segment r h = IfOk-weaker r (Inside count) InSegment (λ p inside. inside.0) h
 
   pub next_pc-inside : (f : Flags) (s : RelState) (dst op1 res : Value) → s.pc.seg < count → Lies count op1 → Lies count res → IfOk (next_pc f s dst op1 res) InSegment
-  unfolding next_pc place_behind
+  unfolding next_pc place_after
   next_pc-inside f s dst op1 res pc h k =
       IfOk-cond InSegment f.pc_abs (pointed PcNotPointer res) _ (in_segment (pointed PcNotPointer res) (pointed-inside PcNotPointer res k))
       (IfOk-cond InSegment f.pc_rel (place_sum s.pc res) _ (in_segment (place_sum s.pc res) (place_sum-inside s.pc res pc k))
-      (IfOk-cond InSegment (f.pc_jnz && not (is_zero dst)) (place_sum s.pc op1) (Ok (place_behind f s)) (in_segment (place_sum s.pc op1) (place_sum-inside s.pc op1 pc h)) pc))
+      (IfOk-cond InSegment (f.pc_jnz && not (is_zero dst)) (place_sum s.pc op1) (Ok (place_after f s)) (in_segment (place_sum s.pc op1) (place_sum-inside s.pc op1 pc h)) pc))
 
   pub next_ap-inside : (f : Flags) (s : RelState) (res : Value) → s.ap.seg < count → Lies count res → IfOk (next_ap f s res) InSegment
   unfolding next_ap
@@ -178,8 +179,8 @@ module _ (count : ℕ) where
   size-low true = omega arith
   size-low false = omega arith
 
-  behind-lies : (f : Flags) (s : RelState) (b : Bool) → s.pc.seg < count → s.pc.off < total_limit → SomeLies (cond b (Some (Ptr (place_behind f s))) None)
-  unfolding place_behind
+  behind-lies : (f : Flags) (s : RelState) (b : Bool) → s.pc.seg < count → s.pc.off < total_limit → SomeLies (cond b (Some (Ptr (place_after f s))) None)
+  unfolding place_after
   behind-lies f s true seg off = (seg, omega (arith, off, size-low f.op1_imm))
   behind-lies f s false seg off = tt
 

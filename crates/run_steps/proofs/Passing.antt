@@ -1,6 +1,6 @@
 -- How a refusal is passed on through the parts of a step.
 use Rattle.std.proofs.Common.{◌≡◌, ◌∙◌, sym, refl}
-use Rattle.std.specs.Prelude.{Result, Ok, Err, IsErrAnd}
+use Rattle.std.specs.Prelude.{Result, Ok, Err, OnOk, IsErrAnd}
 use Rattle.segments.specs.declared.RelState.{RelState}
 use Rattle.segments.specs.Memory.{RunMemory, cell}
 use Rattle.builtin_segments.specs.Rules.{Rules}
@@ -32,6 +32,16 @@ all_placed-dst rules m first second found cause op0_placed op1_placed refused = 
 pub greater-placed : (rules : Rules) (m : RunMemory) (s : RelState) (found : Found) (all : Result RunMemory StepCause) → found_operands m s ≡ Ok found → all_placed rules m found ≡ all → greater rules m s ≡ all
 unfolding greater
 greater-placed rules m s found all found_is placed = rw found_is placed
+
+-- where the operands aren't found, there is no greater memory
+pub greater-refused : (rules : Rules) (m : RunMemory) (s : RelState) (cause : StepCause) → found_operands m s ≡ Err cause → greater rules m s ≡ Err cause
+unfolding greater
+greater-refused rules m s cause refused = rw refused refl
+
+-- what follows from what holds of an answer holds of it
+pub on_ok : {A C : Type 0} (r : Result A C) (P Q : Type 0) → (P → Q) → OnOk r P → OnOk r Q
+on_ok (Ok x) P Q f h = f h
+on_ok (Err e) P Q f h = tt
 
 -- where there is no greater memory, there is no step
 pub step-not_greater : (rules : Rules) (m : RunMemory) (s : RelState) (cause : StepCause) → greater rules m s ≡ Err cause → step rules m s ≡ Err cause

@@ -30,7 +30,7 @@ use Rattle.run_steps.specs.declared.cause.Spot.TheVariants.{Dst, Op0, Op1}
 use Rattle.run_steps.specs.declared.cause.StepCause.{StepCause}
 use Rattle.run_steps.specs.declared.cause.StepCause.TheVariants.{NotPointer, CallPc, CallFp, NotEqual, PcNotPointer, FpNotPointer}
 use Rattle.run_steps.specs.Causes.{demand, in_range, known, pointed, by_arithmetic}
-use Rattle.run_steps.specs.Operands.{instruction_in, place_behind, dst_place, op0_place, op0_pointed, op1_origin, op1_place, res_of, is_zero}
+use Rattle.run_steps.specs.Operands.{instruction_in, place_after, dst_place, op0_place, op0_pointed, op1_origin, op1_place, res_of, is_zero}
 use Rattle.run_steps.specs.Next.{place_sum, next_pc, next_ap, next_fp, has_return_pc, has_caller_fp, meets_assertion, next_by, next_in}
 use Rattle.run_steps.specs.ValueRun.{ValueRun, registers_at, HoldsRelocated}
 use Rattle.run_steps.proofs.Shapes.{bound, same_ok, if_ok, if_some, instruction-ok, range-ok, known-ok, pointed-ok, arithmetic-ok, demand-ok, either, weaker}
@@ -123,14 +123,14 @@ res_at sizes f op0 op1 v few e =
     (λ d. if_ok (value_product op0 op1) v _ (arithmetic-ok (value_product op0 op1) v d) (product_relocates sizes op0 op1))
     (λ d. ap (relocated sizes) (sym (same_ok op1 v d)))) e
 
--- behind an instruction whose address isn't behind the last segment
+-- after an instruction whose address isn't past the last segment
 behind : (b o total : ℕ) (imm : Bool) → b + o ≤ total → total ≤ total_limit → b + (o + cond imm 2 1) ≡ field_add (b + o) (cond imm 2 1)
 unfolding field_add
 behind b o total true low few = omega arith
 behind b o total false low few = omega arith
 
-behind_at : (sizes : List ℕ) (f : Flags) (s : RelState) → sum sizes ≤ total_limit → address sizes s.pc ≤ sum sizes → address sizes (place_behind f s) ≡ table.following_pc f (registers_at sizes s)
-unfolding place_behind address registers_at
+behind_at : (sizes : List ℕ) (f : Flags) (s : RelState) → sum sizes ≤ total_limit → address sizes s.pc ≤ sum sizes → address sizes (place_after f s) ≡ table.following_pc f (registers_at sizes s)
+unfolding place_after address registers_at
 behind_at sizes f s few low = behind (base sizes s.pc.seg) s.pc.off (sum sizes) f.op1_imm low few
 
 pc_at : (sizes : List ℕ) (f : Flags) (s : RelState) (dst op0 op1 res : Value) (pc : Place) → sum sizes ≤ total_limit → address sizes s.pc ≤ sum sizes → res_of f op0 op1 ≡ Ok res → next_pc f s dst op1 res ≡ Ok pc → address sizes pc ≡ table.next_pc f (registers_at sizes s) (relocated sizes dst) (relocated sizes op0) (relocated sizes op1)
@@ -141,7 +141,7 @@ pc_at sizes f s dst op0 op1 res pc few low is e =
     (either f.pc_rel f.pc_rel _ _ pc _ _ (address sizes pc) refl (λ d. place_sum_at sizes s.pc pc res few d ∙ ap (λ (n : ℕ). field_add (address sizes s.pc) n) r)
     (either (f.pc_jnz && not (is_zero dst)) (f.pc_jnz && not (nat_eq (relocated sizes dst) 0)) _ _ pc _ _ (address sizes pc) (ap (λ (b : Bool). f.pc_jnz && not b) (zero_at sizes dst))
     (place_sum_at sizes s.pc pc op1 few)
-    (λ d. register_at sizes (place_behind f s) pc d ∙ behind_at sizes f s few low))) e
+    (λ d. register_at sizes (place_after f s) pc d ∙ behind_at sizes f s few low))) e
 
 ap_at : (sizes : List ℕ) (f : Flags) (s : RelState) (op0 op1 res : Value) (p : Place) → sum sizes ≤ total_limit → res_of f op0 op1 ≡ Ok res → next_ap f s res ≡ Ok p → address sizes p ≡ table.next_ap f (registers_at sizes s) (relocated sizes op0) (relocated sizes op1)
 unfolding next_ap registers_at
@@ -171,7 +171,7 @@ return_pc_at : (sizes : List ℕ) (f : Flags) (s : RelState) (op0 : Value) → s
 unfolding has_return_pc
 return_pc_at sizes f s op0 few low e =
     weaker (not f.op_call) _ _
-    (same_at sizes op0 (Ptr (place_behind f s)) (table.following_pc f (registers_at sizes s)) (sym (pointer_at sizes (Ptr (place_behind f s)) (place_behind f s) refl) ∙ behind_at sizes f s few low)) e
+    (same_at sizes op0 (Ptr (place_after f s)) (table.following_pc f (registers_at sizes s)) (sym (pointer_at sizes (Ptr (place_after f s)) (place_after f s) refl) ∙ behind_at sizes f s few low)) e
 
 caller_fp_at : (sizes : List ℕ) (f : Flags) (s : RelState) (dst : Value) → has_caller_fp f s dst ≡ true → table.has_caller_fp f (registers_at sizes s) (relocated sizes dst) ≡ true
 unfolding has_caller_fp registers_at

@@ -12,11 +12,12 @@ use Rattle.run_steps.specs.declared.operands.Places.{Places}
 use Rattle.run_steps.specs.declared.operands.Found.{Found}
 use Rattle.run_steps.specs.Causes.{known}
 use Rattle.run_steps.specs.Operands.{instruction_in, dst_place, op0_place, op0_pointed, op1_origin, op1_place, res_of}
-use Rattle.run_steps.specs.Deduction.{called_op0, sought_op0, sought_op1, found_dst}
+use Rattle.run_steps.specs.Cases.{places_by_cases, operands_by_cases, found_by_cases, called_op0, sought_op0, sought_op1, found_dst}
 use Rattle.run_steps.specs.Next.{next_by, next_in}
-use Rattle.run_steps.specs.Step.{places_of, operands_of, found_operands, placed, all_placed}
+use Rattle.run_steps.specs.Step.{found_operands, placed, all_placed}
 use Rattle.run_steps.proofs.Shapes.{bound, chained, same_ok, known-ok}
 use Rattle.run_steps.proofs.Chains.{Later, later-same, then_later, held-later}
+use Rattle.run_steps.proofs.TableCases.{found-cases}
 use Rattle.run_steps.proofs.Adding.{Adds, adding-adds}
 use Rattle.run_steps.proofs.StepParts.{Keeps, instruction-later, placed-keeps, unless_refused-ok}
 
@@ -57,8 +58,8 @@ record OperandsAre (places : Places) (known_dst known_op0 known_op1 : Option Val
   pub op0 : Agrees known_op0 found.op0
   pub op1 : Agrees known_op1 found.op1
 
-operands-are : (f : Flags) (s : RelState) (at : Places) (dst op0 op1 : Option Value) (found : Found) → operands_of f s at dst op0 op1 ≡ Ok found → OperandsAre at dst op0 op1 found
-unfolding operands_of
+operands-are : (f : Flags) (s : RelState) (at : Places) (dst op0 op1 : Option Value) (found : Found) → operands_by_cases f s at dst op0 op1 ≡ Ok found → OperandsAre at dst op0 op1 found
+unfolding operands_by_cases
 operands-are f s at dst op0 op1 found e =
     let first = bound (sought_op0 f dst op0 op1) _ found e in
     let second = bound (sought_op1 f dst first.0 op1) _ found first.2 in
@@ -78,8 +79,8 @@ record PlacesAre (m : RunMemory) (w : Word) (s : RelState) (at : Places) : Type 
   pub op0 : op0_place w s ≡ Ok at.op0
   pub op1 : op1_place w s at.op0 (called_op0 w.flags s (cell m at.op0)) ≡ Ok at.op1
 
-places-are : (m : RunMemory) (w : Word) (s : RelState) (at : Places) → places_of m w s ≡ Ok at → PlacesAre m w s at
-unfolding places_of
+places-are : (m : RunMemory) (w : Word) (s : RelState) (at : Places) → places_by_cases m w s ≡ Ok at → PlacesAre m w s at
+unfolding places_by_cases
 places-are m w s at e =
     let dst = bound (dst_place w s) _ at e in
     let op0 = bound (op0_place w s) _ at dst.2 in
@@ -136,11 +137,11 @@ found-parts m w s at found places operands =
     }
 
 pub is-found : (m : RunMemory) (s : RelState) (found : Found) → found_operands m s ≡ Ok found → (w : Word) × (instruction_in (cell m s.pc) ≡ Ok w) × IsFound m w s found
-unfolding found_operands
+unfolding found_by_cases
 is-found m s found e =
-    let word = bound (instruction_in (cell m s.pc)) _ found e in
+    let word = bound (instruction_in (cell m s.pc)) _ found (sym (found-cases m s) ∙ e) in
     let w : Word = word.0 in
-    let places = bound (places_of m w s) _ found word.2 in
+    let places = bound (places_by_cases m w s) _ found word.2 in
     let at : Places = places.0 in
     (w, word.1, found-parts m w s at found (places-are m w s at places.1) (operands-are w.flags s at (cell m at.dst) (called_op0 w.flags s (cell m at.op0)) (cell m at.op1) found places.2))
 

@@ -1,5 +1,5 @@
 -- States whose places lie in segments that are there, through a step and a whole run.
-use Rattle.std.proofs.Common.{◌≡◌, ℕ, ◌^◌, ◌<◌, ◌≤◌, List, ◌∷◌, length, Option, Some, Ok, IfOk, arith}
+use Rattle.std.proofs.Common.{◌≡◌, ℕ, ◌^◌, ◌<◌, ◌≤◌, List, ◌∷◌, length, Option, Some, Result, Ok, IfOk, sym, subst, arith}
 use Rattle.std.specs.Prelude.{All}
 use Rattle.std.proofs.lemmas.Result.{IfOk-at_ok}
 use Rattle.segments.specs.declared.RelState.{RelState}
@@ -7,17 +7,19 @@ use Rattle.segments.specs.declared.Value.{Value}
 use Rattle.segments.specs.Memory.{RunMemory, IsMemory, cell, total_limit}
 use Rattle.builtin_segments.specs.Rules.{Rules}
 use Rattle.casm_word.specs.declared.Flags.{Flags}
+use Rattle.run_steps.specs.declared.cause.StepCause.{StepCause}
 use Rattle.run_steps.specs.declared.cause.StepCause.TheVariants.{CallPc, CallFp, NotEqual}
 use Rattle.run_steps.specs.declared.operands.Places.{Places}
 use Rattle.run_steps.specs.declared.operands.Found.{Found}
 use Rattle.run_steps.specs.Causes.{demand, known}
 use Rattle.run_steps.specs.Operands.{instruction_in, dst_place, op0_place, op1_place, res_of}
 use Rattle.run_steps.specs.Next.{has_return_pc, has_caller_fp, meets_assertion, next_pc, next_ap, next_fp, next_by, next_in}
-use Rattle.run_steps.specs.Deduction.{called_op0, sought_op0, sought_op1, found_dst}
-use Rattle.run_steps.specs.Step.{places_of, operands_of, found_operands, step}
+use Rattle.run_steps.specs.Cases.{places_by_cases, operands_by_cases, found_by_cases, called_op0, sought_op0, sought_op1, found_dst}
+use Rattle.run_steps.specs.Step.{found_operands, step}
 use Rattle.run_steps.specs.ValueRun.{ValueRun, InSegments}
 use Rattle.run_steps.proofs.Chains.{then_ok, then_any, known-ok}
 use Rattle.run_steps.proofs.Lying.{Inside, Lies, SomeLies, lies-offset, cell-lies, instruction-inside, res-lies, next_pc-inside, next_ap-inside, next_fp-inside, called_op0-lies, sought_op0-lies, sought_op1-lies, found_dst-lies}
+use Rattle.run_steps.proofs.TableCases.{found-cases}
 use Rattle.run_steps.proofs.StepParts.{Made, made}
 use Rattle.run_steps.proofs.Inside as inside
 
@@ -65,8 +67,8 @@ pub record FoundLies (count : ℕ) (found : Found) : Type 0 where
   pub op0 : Lies count found.op0
   pub op1 : Lies count found.op1
 
-operands-lie : (count : ℕ) (f : Flags) (s : RelState) (at : Places) (dst op0 op1 : Option Value) → Stands count s → SomeLies count dst → SomeLies count op0 → SomeLies count op1 → IfOk (operands_of f s at dst op0 op1) (FoundLies count)
-unfolding operands_of
+operands-lie : (count : ℕ) (f : Flags) (s : RelState) (at : Places) (dst op0 op1 : Option Value) → Stands count s → SomeLies count dst → SomeLies count op0 → SomeLies count op1 → IfOk (operands_by_cases f s at dst op0 op1) (FoundLies count)
+unfolding operands_by_cases
 operands-lie count f s at dst op0 op1 is d h k =
     then_ok (SomeLies count) (FoundLies count) (sought_op0 f dst op0 op1) _ (sought_op0-lies count f dst op0 op1 d h) (λ op0_sought _ h'.
     then_ok (SomeLies count) (FoundLies count) (sought_op1 f dst op0_sought op1) _ (sought_op1-lies count f dst op0_sought op1 d k) (λ op1_sought _ k'.
@@ -76,15 +78,18 @@ operands-lie count f s at dst op0 op1 is d h k =
     then_ok (Lies count) (FoundLies count) (found_dst f s at.dst res dst) _ (found_dst-lies count f s at.dst res dst is.fp r d) (λ dst_found _ df.
     record { dst = df; op0 = hf; op1 = kf }))))))
 
-found-lies : (m : RunMemory) (s : RelState) → IsMemory m → Stands (length m.sizes) s → IfOk (found_operands m s) (FoundLies (length m.sizes))
-unfolding found_operands
-found-lies m s is stands =
+cases-lie : (m : RunMemory) (s : RelState) → IsMemory m → Stands (length m.sizes) s → IfOk (found_by_cases m s) (FoundLies (length m.sizes))
+unfolding found_by_cases
+cases-lie m s is stands =
     let count : ℕ = length m.sizes in
     then_any (FoundLies count) (instruction_in (cell m s.pc)) _ (λ w e.
     let low : s.pc.off < total_limit = (instruction-inside m s.pc w is e).1 in
-    then_any (FoundLies count) (places_of m w s) _ (λ at _.
+    then_any (FoundLies count) (places_by_cases m w s) _ (λ at _.
     operands-lie count w.flags s at (cell m at.dst) (called_op0 w.flags s (cell m at.op0)) (cell m at.op1) stands
     (cell-lies m at.dst is) (called_op0-lies count w.flags s (cell m at.op0) stands.pc low (cell-lies m at.op0 is)) (cell-lies m at.op1 is)))
+
+found-lies : (m : RunMemory) (s : RelState) → IsMemory m → Stands (length m.sizes) s → IfOk (found_operands m s) (FoundLies (length m.sizes))
+found-lies m s is stands = subst (λ (found : Result Found StepCause). IfOk found (FoundLies (length m.sizes))) (sym (found-cases m s)) (cases-lie m s is stands)
 
 -- ---- a step
 

@@ -2,6 +2,7 @@ pub mod Causes
 pub mod Operands
 pub mod Next
 pub mod Deduction
+pub mod Cases
 pub mod Step
 pub mod ValueRun
 pub mod Shown

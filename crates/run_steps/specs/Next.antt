@@ -11,9 +11,10 @@ use Rattle.segments.specs.Memory.{RunMemory, cell}
 use Rattle.run_steps.specs.declared.cause.StepCause.{StepCause}
 use Rattle.run_steps.specs.declared.cause.StepCause.TheVariants.{NotPointer, CallPc, CallFp, NotEqual, PcNotPointer, FpNotPointer}
 use Rattle.run_steps.specs.Causes.{◌>>=◌, demand, known, pointed, by_arithmetic}
-use Rattle.run_steps.specs.Operands.{instruction_in, place_behind, dst_place, op0_place, op1_place, res_of, is_zero}
+use Rattle.run_steps.specs.Operands.{instruction_in, place_after, dst_place, op0_place, op1_place, res_of, is_zero}
 
--- The place that is so many cells behind a place. Own.
+-- The place that is so many cells after a place. A pointer and a number have a pointer as their sum, or none, so the sum
+-- is never refused as `NotPointer` (`sum_law`). Own.
 unfoldable pub place_sum : Place → Value → Result Place StepCause
 place_sum p v = do
   sum ← by_arithmetic (value_sum (Ptr p) v)
@@ -25,7 +26,7 @@ next_pc f s dst op1 res =
     if f.pc_abs then pointed PcNotPointer res
     else (if f.pc_rel then place_sum s.pc res
     else (if f.pc_jnz && not (is_zero dst) then place_sum s.pc op1
-    else Ok (place_behind f s)))
+    else Ok (place_after f s)))
 
 -- The next ap. The whitepaper's state transition function.
 unfoldable pub next_ap : Flags → RelState → Value → Result Place StepCause
@@ -44,7 +45,7 @@ next_fp f s dst =
 
 -- A call demands that op0 is the pointer to return to. The whitepaper's state transition function.
 unfoldable pub has_return_pc : Flags → RelState → Value → Bool
-has_return_pc f s op0 = not f.op_call || same_value op0 (Ptr (place_behind f s))
+has_return_pc f s op0 = not f.op_call || same_value op0 (Ptr (place_after f s))
 
 -- A call demands that dst is the caller's fp. The whitepaper's state transition function.
 unfoldable pub has_caller_fp : Flags → RelState → Value → Bool

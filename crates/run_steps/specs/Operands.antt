@@ -26,9 +26,9 @@ instruction_in (Some (Num x)) = word_or_fault (decoding x.number)
 instruction_in (Some (Ptr p)) = Err NoInstruction
 instruction_in None = Err NoInstruction
 
--- The place of the instruction behind this one. The whitepaper's state transition function.
-unfoldable pub place_behind : Flags → RelState → Place
-place_behind f s = place s.pc.seg (s.pc.off + size f)
+-- The place of the instruction after this one. The whitepaper's state transition function.
+unfoldable pub place_after : Flags → RelState → Place
+place_after f s = place s.pc.seg (s.pc.off + size f)
 
 -- Where dst lies. The whitepaper's state transition function.
 unfoldable pub dst_place : Word → RelState → Result Place StepCause

@@ -9,41 +9,46 @@ use Rattle.segments.specs.declared.Value.{Value}
 use Rattle.segments.specs.Memory.{RunMemory, cell}
 use Rattle.builtin_segments.specs.declared.cells.CellCause.{CellCause}
 use Rattle.builtin_segments.specs.Rules.{Rules, adding}
+use Rattle.run_steps.specs.declared.cause.Spot.TheVariants.{Dst, Op0, Op1}
 use Rattle.run_steps.specs.declared.cause.StepCause.{StepCause}
 use Rattle.run_steps.specs.declared.cause.StepCause.TheVariants.{Cell}
 use Rattle.run_steps.specs.declared.operands.Places.{Places}
 use Rattle.run_steps.specs.declared.operands.Found.{Found}
 use Rattle.run_steps.specs.Causes.{◌>>=◌, known}
 use Rattle.run_steps.specs.Operands.{instruction_in, dst_place, op0_place, op1_place, res_of}
-use Rattle.run_steps.specs.Deduction.{called_op0, sought_op0, sought_op1, found_dst}
+use Rattle.run_steps.specs.Deduction.{reads, computed, deduction, before_op1, deduced}
 use Rattle.run_steps.specs.Next.{next_in}
 
--- Where the operands of an instruction lie. The whitepaper's state transition function; what a call knows of op0 is own.
+-- Where the operands of an instruction lie. The row of the table that gives op0 in a call is asked before the place of op1
+-- is computed. The whitepaper's state transition function; what a call knows of op0 is own.
 unfoldable pub places_of : RunMemory → Word → RelState → Result Places StepCause
 places_of m w s = do
   dst_at ← dst_place w s
   op0_at ← op0_place w s
-  op1_at ← op1_place w s op0_at (called_op0 w.flags s (cell m op0_at))
+  op0 ← deduced before_op1 Op0 (reads w.flags s (cell m dst_at) (cell m op0_at) None)
+  op1_at ← op1_place w s op0_at op0
   Ok (record { dst = dst_at; op0 = op0_at; op1 = op1_at })
 
--- All operands, where they lie at these places and this is known of dst, op0 and op1: op0 and op1 are found out first,
--- and then dst. Own.
+-- All operands, where they lie at these places and their cells hold this. The table is asked for op0 and op1 first, and
+-- both have to be known then; and once what is computed of them is known, it is asked for dst. Own.
 unfoldable pub operands_of : Flags → RelState → Places → Option Value → Option Value → Option Value → Result Found StepCause
 operands_of f s at dst op0 op1 = do
-  op0_sought ← sought_op0 f dst op0 op1
-  op1_sought ← sought_op1 f dst op0_sought op1
+  op0_sought ← deduced deduction Op0 (reads f s dst op0 op1)
+  op1_sought ← deduced deduction Op1 (reads f s dst op0_sought op1)
   op0_found ← known at.op0 op0_sought
   op1_found ← known at.op1 op1_sought
   res ← res_of f op0_found op1_found
-  dst_found ← found_dst f s at.dst res dst
+  dst_sought ← deduced deduction Dst (computed f s dst op0_found op1_found res)
+  dst_found ← known at.dst dst_sought
   Ok (record { at = at; dst = dst_found; op0 = op0_found; op1 = op1_found })
 
--- The operands of a step: all its cells are read first, and then what isn't known is found out. Own.
+-- The operands of a step: all its cells are read first, and then what isn't known is found out by the table of
+-- deduction. Own.
 unfoldable pub found_operands : RunMemory → RelState → Result Found StepCause
 found_operands m s = do
   w ← instruction_in (cell m s.pc)
   at ← places_of m w s
-  operands_of w.flags s at (cell m at.dst) (called_op0 w.flags s (cell m at.op0)) (cell m at.op1)
+  operands_of w.flags s at (cell m at.dst) (cell m at.op0) (cell m at.op1)
 
 -- The memory with a cell of the step, or the cause against the cell at this place. Own.
 unfoldable pub unless_refused : Place → Result RunMemory CellCause → Result RunMemory StepCause

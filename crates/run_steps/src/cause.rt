@@ -7,11 +7,11 @@ use segments::{ArithFault, Place};
 /// An operand of a step.
 #[derive(Clone, Copy, Debug, PartialEq, Eq)]
 pub enum Spot {
-    /// The first operand, which an assertion compares.
+    /// The operand that lies by ap or fp, and that an assertion compares with what is computed.
     Dst,
-    /// The second operand.
+    /// The first operand of what is computed; it lies by ap or fp.
     Op0,
-    /// The third operand.
+    /// The second operand of what is computed; it lies by pc, by ap, by fp, or by the place to which op0 points.
     Op1,
 }
 
@@ -37,7 +37,7 @@ pub enum StepCause {
         /// Why it may not be placed there.
         cause: CellCause,
     },
-    /// A call whose op0 isn't the pointer to the instruction behind it.
+    /// A call whose op0 isn't the pointer to the instruction after it.
     CallPc,
     /// A call whose dst isn't the pointer fp.
     CallFp,

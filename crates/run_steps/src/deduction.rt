@@ -1,10 +1,11 @@
 //! The cells that a step finds out, and their values.
 ghost use Rattle.std.specs.Prelude.{◌≡◌, ◌<◌};
 ghost use Rattle.segments.specs.Memory.{total_limit};
-ghost use Rattle.run_steps.specs.Deduction.{known_difference, known_quotient, called_op0, sought_op0, sought_op1, found_dst};
+ghost use Rattle.run_steps.specs.Deduction.{known_difference, known_quotient};
+ghost use Rattle.run_steps.specs.Cases.{called_op0, sought_op0, sought_op1, found_dst};
 
 use crate::cause::StepCause;
-use crate::operands::{by_arithmetic, place_behind};
+use crate::operands::{by_arithmetic, place_after};
 use casm_word::Flags;
 use segments::{Place, RelState, Value, div_value, sub_value};
 
@@ -33,8 +34,8 @@ fn known_quotient(a: Option<Value>, b: Option<Value>) -> Option<Value>
     }
 }
 
-/// What is known of op0: in a call it is the pointer to the instruction behind, where its cell holds nothing.
-#[tactic(auto, unfolding(crate::specs::Deduction::called_op0))]
+/// What is known of op0: in a call it is the pointer to the instruction after it, where its cell holds nothing.
+#[tactic(auto, unfolding(crate::specs::Cases::called_op0))]
 pub fn called_op0(flags: Flags, state: RelState, op0: Option<Value>) -> Option<Value>
     requires { state.pc.off < total_limit }
     ensures { result ≡ called_op0 flags state op0 }
@@ -43,7 +44,7 @@ pub fn called_op0(flags: Flags, state: RelState, op0: Option<Value>) -> Option<V
         Some(value) => Some(value),
         None => {
             if flags.op_call {
-                Some(Value::Ptr(place_behind(flags, state)))
+                Some(Value::Ptr(place_after(flags, state)))
             } else {
                 None
             }
@@ -54,7 +55,7 @@ pub fn called_op0(flags: Flags, state: RelState, op0: Option<Value>) -> Option<V
 /// What is known of op0 once it is sought: an assertion gives it from dst and op1.
 ///
 /// [`StepCause::Arith`] where the difference that it would be isn't there.
-#[tactic(auto, unfolding(crate::specs::Deduction::sought_op0))]
+#[tactic(auto, unfolding(crate::specs::Cases::sought_op0))]
 pub fn sought_op0(
     flags: Flags,
     dst: Option<Value>,
@@ -80,7 +81,7 @@ pub fn sought_op0(
 /// What is known of op1 once it is sought: an assertion gives it from dst and op0, or from dst alone.
 ///
 /// [`StepCause::Arith`] where the difference that it would be isn't there.
-#[tactic(auto, unfolding(crate::specs::Deduction::sought_op1))]
+#[tactic(auto, unfolding(crate::specs::Cases::sought_op1))]
 pub fn sought_op1(
     flags: Flags,
     dst: Option<Value>,
@@ -106,7 +107,7 @@ pub fn sought_op1(
 /// What dst is: where its cell holds nothing, it is `res` in an assertion and the pointer fp in a call.
 ///
 /// [`StepCause::Unknown`] where nothing gives it.
-#[tactic(auto, unfolding(crate::specs::Deduction::found_dst))]
+#[tactic(auto, unfolding(crate::specs::Cases::found_dst))]
 pub fn found_dst(
     flags: Flags,
     state: RelState,

@@ -1,5 +1,5 @@
 //! Laws of the definitions: functions that do nothing, and whose contracts say what always holds.
-ghost use Rattle.std.specs.Prelude.{◌≡◌, ◌^◌, ◌<◌, List, ◌∷◌, All, length, map, Some, Ok};
+ghost use Rattle.std.specs.Prelude.{◌≡◌, ◌≢◌, ◌^◌, ◌<◌, List, ◌∷◌, All, length, map, Option, Some, Ok, Err};
 ghost use Rattle.casm_word.specs.declared.Word.{Word};
 ghost use Rattle.casm_word.specs.Transition.{Memory, next};
 ghost use Rattle.casm_word.specs.Run.{LegalRun};
@@ -8,7 +8,14 @@ ghost use Rattle.segments.specs.Memory.{RunMemory, IsMemory, Grows, cell, size};
 ghost use Rattle.builtin_segments.specs.Rules.{Rules};
 ghost use Rattle.run_steps.specs.declared.operands.Found.{Found};
 ghost use Rattle.run_steps.specs.Operands.{instruction_in};
-ghost use Rattle.run_steps.specs.Next.{next_by, next_in};
+ghost use Rattle.segments.specs.declared.Place.{Place};
+ghost use Rattle.segments.specs.declared.Value.{Value};
+ghost use Rattle.casm_word.specs.declared.Flags.{Flags};
+ghost use Rattle.run_steps.specs.declared.cause.Spot.TheVariants.{Op0, Op1};
+ghost use Rattle.run_steps.specs.declared.cause.StepCause.TheVariants.{NotPointer};
+ghost use Rattle.run_steps.specs.Next.{place_sum, next_by, next_in};
+ghost use Rattle.run_steps.specs.Deduction.{reads, deduction, before_op1, deduced};
+ghost use Rattle.run_steps.specs.Cases.{called_op0, sought_op0, sought_op1, found_by_cases};
 ghost use Rattle.run_steps.specs.Step.{found_operands, all_placed, step};
 ghost use Rattle.run_steps.specs.ValueRun.{ValueRun, HoldsRelocated, InSegments, registers_at};
 
@@ -49,4 +56,21 @@ pub fn reread_law()
         found_operands m s ≡ Ok found → all_placed rules m found ≡ Ok n →
         (w : Word) × (instruction_in (cell m s.pc) ≡ Ok w)
         × (next_in n s ≡ next_by w.flags s found.dst found.op0 found.op1) }
+{}
+
+/// What the table of deduction gives is what the code finds case by case: op0 before op1 is read, op0, op1, and all operands
+/// of a step.
+pub fn deduction_laws()
+    ensures called { (f : Flags) (s : RelState) (dst op0 op1 : Option Value) →
+        deduced before_op1 Op0 (reads f s dst op0 op1) ≡ Ok (called_op0 f s op0) }
+    ensures op0 { (f : Flags) (s : RelState) (dst op0 op1 : Option Value) →
+        deduced deduction Op0 (reads f s dst op0 op1) ≡ sought_op0 f dst (called_op0 f s op0) op1 }
+    ensures op1 { (f : Flags) (s : RelState) (dst op0 op1 : Option Value) →
+        deduced deduction Op1 (reads f s dst op0 op1) ≡ sought_op1 f dst op0 op1 }
+    ensures all { (m : RunMemory) (s : RelState) → found_operands m s ≡ found_by_cases m s }
+{}
+
+/// The place after so many cells is never refused because the sum isn't a pointer.
+pub fn sum_law()
+    ensures { (p : Place) (v : Value) → place_sum p v ≢ Err NotPointer }
 {}

@@ -11,6 +11,6 @@ mod stepper;
 mod transition;
 
 pub use cause::{Spot, StepCause, StepFault};
-pub use laws::{growing_laws, inside_laws, relocation_laws, reread_law};
+pub use laws::{deduction_laws, growing_laws, inside_laws, relocation_laws, reread_law, sum_law};
 pub use operands::{Found, Places};
 pub use stepper::step;

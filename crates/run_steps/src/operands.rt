@@ -4,7 +4,7 @@ ghost use Rattle.casm_word.specs.Word.{decoding};
 ghost use Rattle.segments.specs.Memory.{IsMemory, total_limit, cell};
 ghost use Rattle.segments.specs.Values.{value_sum, value_product};
 ghost use Rattle.run_steps.specs.Causes.{in_range, known, pointed, by_arithmetic};
-ghost use Rattle.run_steps.specs.Operands.{word_or_fault, instruction_in, place_behind, dst_place, op0_place, op0_pointed};
+ghost use Rattle.run_steps.specs.Operands.{word_or_fault, instruction_in, place_after, dst_place, op0_place, op0_pointed};
 ghost use Rattle.run_steps.specs.Operands.{op1_origin, op1_place, res_of, is_zero};
 
 use crate::cause::{Spot, StepCause};
@@ -101,11 +101,11 @@ pub fn instruction(memory: &Segments, state: RelState) -> Result<Word, StepCause
     }
 }
 
-/// The place of the instruction behind this one.
-#[tactic(auto, unfolding(crate::specs::Operands::place_behind))]
-pub fn place_behind(flags: Flags, state: RelState) -> Place
+/// The place of the instruction after this one.
+#[tactic(auto, unfolding(crate::specs::Operands::place_after))]
+pub fn place_after(flags: Flags, state: RelState) -> Place
     requires { state.pc.off < total_limit }
-    ensures { result ≡ place_behind flags state }
+    ensures { result ≡ place_after flags state }
 {
     let size = if flags.op1_imm { 2 } else { 1 };
     Place {

@@ -4,7 +4,8 @@ ghost use Rattle.segments.specs.Memory.{IsMemory, Grows, total_limit, cell};
 ghost use Rattle.builtin_segments.specs.Rules.{Rules};
 ghost use Rattle.run_steps.specs.declared.cause.StepCause.{StepCause};
 ghost use Rattle.run_steps.specs.declared.cause.StepFault.{StepFault};
-ghost use Rattle.run_steps.specs.Step.{places_of, operands_of, found_operands, greater, step};
+ghost use Rattle.run_steps.specs.Step.{greater, step};
+ghost use Rattle.run_steps.specs.Cases.{places_by_cases, operands_by_cases, found_by_cases};
 
 use crate::cause::{StepCause, StepFault};
 use crate::deduction::{called_op0, found_dst, sought_op0, sought_op1};
@@ -28,14 +29,14 @@ use std::alloc::Global;
 /// 7. [`StepCause::CallPc`], [`StepCause::CallFp`], [`StepCause::NotEqual`].
 /// 8. [`StepCause::PcNotPointer`] or [`StepCause::Arith`] of pc, [`StepCause::Arith`] of ap, [`StepCause::FpNotPointer`].
 ///
-/// After a fault the memory may have some of the cells that were found out.
+/// After a fault, too, the memory has all that it had, and maybe some of the cells that were found out.
 #[tactic(auto, unfolding(crate::specs::Step::step))]
 pub fn step(alloc: Global, memory: &mut Segments, state: RelState) -> Result<RelState, StepFault>
     ensures next { (rules : Rules) → IfOk result (λ t. step rules memory.old state ≡ Ok (memory.new, t)) }
     ensures refused { (rules : Rules) (cause : StepCause) → result ≡ Err (StepFault.Refused cause) →
         step rules memory.old state ≡ Err cause }
     ensures kept { OnOk result (IsMemory memory.new) }
-    ensures grows { OnOk result (Grows memory.old memory.new) }
+    ensures grows { Grows memory.old memory.new }
 {
     find_out(alloc, memory, state)?;
     let next = next_state(memory, state)?;
@@ -48,16 +49,16 @@ fn find_out(alloc: Global, memory: &mut Segments, state: RelState) -> Result<(),
     ensures found { (rules : Rules) → OnOk result (greater rules memory.old state ≡ Ok memory.new) }
     ensures refused { (rules : Rules) (cause : StepCause) → result ≡ Err (StepFault.Refused cause) →
         greater rules memory.old state ≡ Err cause }
-    ensures grows { OnOk result (Grows memory.old memory.new) }
+    ensures grows { Grows memory.old memory.new }
 {
     let found = found_operands(memory, state)?;
     place_all(alloc, memory, found)
 }
 
 /// The operands of the step, as far as the memory has them or they can be found out.
-#[tactic(auto, unfolding(crate::specs::Step::found_operands))]
+#[tactic(auto, unfolding(crate::specs::Cases::found_by_cases))]
 fn found_operands(memory: &Segments, state: RelState) -> Result<Found, StepCause>
-    ensures { result ≡ found_operands memory.now state }
+    ensures { result ≡ found_by_cases memory.now state }
 {
     let word = instruction(memory, state)?;
     let at = places_of(memory, word, state)?;
@@ -68,10 +69,10 @@ fn found_operands(memory: &Segments, state: RelState) -> Result<Found, StepCause
 }
 
 /// Where the operands lie.
-#[tactic(auto, unfolding(crate::specs::Step::places_of))]
+#[tactic(auto, unfolding(crate::specs::Cases::places_by_cases))]
 fn places_of(memory: &Segments, word: Word, state: RelState) -> Result<Places, StepCause>
     requires { state.pc.off < total_limit }
-    ensures { result ≡ places_of memory.now word state }
+    ensures { result ≡ places_by_cases memory.now word state }
 {
     let dst = dst_place(word, state)?;
     let op0 = op0_place(word, state)?;
@@ -81,7 +82,7 @@ fn places_of(memory: &Segments, word: Word, state: RelState) -> Result<Places, S
 }
 
 /// All operands, where this is known of dst, op0 and op1: op0 is sought first, then op1, and dst last.
-#[tactic(auto, unfolding(crate::specs::Step::operands_of))]
+#[tactic(auto, unfolding(crate::specs::Cases::operands_by_cases))]
 fn operands_of(
     flags: Flags,
     state: RelState,
@@ -90,7 +91,7 @@ fn operands_of(
     op0: Option<Value>,
     op1: Option<Value>,
 ) -> Result<Found, StepCause>
-    ensures { result ≡ operands_of flags state at dst op0 op1 }
+    ensures { result ≡ operands_by_cases flags state at dst op0 op1 }
 {
     let op0_sought = sought_op0(flags, dst, op0, op1)?;
     let op1_sought = sought_op1(flags, dst, op0_sought, op1)?;

@@ -8,7 +8,7 @@ ghost use Rattle.run_steps.specs.Next.{next_by, next_in};
 
 use crate::cause::StepCause;
 use crate::operands::{
-    by_arithmetic, dst_place, instruction, is_zero, known, op0_place, op1_place, place_behind,
+    by_arithmetic, dst_place, instruction, is_zero, known, op0_place, op1_place, place_after,
     pointed, res_of,
 };
 use casm_word::Flags;
@@ -70,7 +70,7 @@ fn has_return_pc(flags: Flags, state: RelState, op0: Value) -> bool
     requires { state.pc.off < total_limit }
     ensures { result ≡ has_return_pc flags state op0 }
 {
-    !flags.op_call || op0 == Value::Ptr(place_behind(flags, state))
+    !flags.op_call || op0 == Value::Ptr(place_after(flags, state))
 }
 
 /// Whether dst is the caller's fp, where this is a call.
@@ -110,7 +110,7 @@ fn next_pc(
     } else if flags.pc_jnz && !is_zero(dst) {
         place_sum(state.pc, op1)
     } else {
-        Ok(place_behind(flags, state))
+        Ok(place_after(flags, state))
     }
 }
 
@@ -146,12 +146,13 @@ fn next_fp(flags: Flags, state: RelState, dst: Value) -> Result<Place, StepCause
     }
 }
 
-/// The place that is so many cells behind a place; [`StepCause::Arith`] where there is none.
+/// The place that is so many cells after a place; [`StepCause::Arith`] where there is none.
 #[tactic(auto, unfolding(crate::specs::Next::place_sum))]
 fn place_sum(place: Place, cells: Value) -> Result<Place, StepCause>
     ensures { result ≡ place_sum place cells }
 {
     let sum = by_arithmetic(add_value(Value::Ptr(place), cells))?;
+    // A pointer and a number have a pointer as their sum, so this cause never comes.
     pointed(StepCause::NotPointer, sum)
 }
 

@@ -7,10 +7,12 @@ mod laws;
 mod runner;
 mod stepping;
 
+pub use builtin_segments::CellCause;
 use builtin_segments::Stops;
 pub use fault::RunFault;
 pub use laws::completed_laws;
 pub use public_input::STEP_LIMIT;
+pub use run_steps::{Spot, StepCause};
 pub use runner::run;
 use segments::{RelState, Segments};
 

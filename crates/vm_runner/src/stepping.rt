@@ -72,7 +72,7 @@ fn make_step(
     }
 }
 
-/// Adds a state behind all others.
+/// Adds a state after all others.
 fn push_state(states: &mut Vec<RelState>, state: RelState) -> Result<(), AllocError>
     ensures { OnOk result (states.new.items ≡ states.old.items ++ state ∷ []) }
 {
