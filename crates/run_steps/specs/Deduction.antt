@@ -80,8 +80,8 @@ known_quotient None b = None
 
 -- ---- the table
 
--- The table of deduction. A row is a cell, the instructions for which it may be found out, and its value. After the
--- Cairo Zero runner; the table is own.
+-- The table of deduction. A row is a cell, the instructions for which it may be found out, and its value. It is after
+-- the Cairo Zero runner. Own.
 abbrev pub deduction : List Row
 deduction =
     row Op0 calls (λ k. Ok (Some (Ptr (place_after k.flags k.state))))
